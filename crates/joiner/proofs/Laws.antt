@@ -1,0 +1,182 @@
+-- Laws of the definitions of `specs/`: what a byte does by its kind, what a call does with one byte more.
+-- Assumes nothing.
+use Prim.Native.Nat.{ℕ, suc, _+_, _<_, _≤_}
+use mathlib.Core.Path.{_≡_, refl, sym, ap, _∙_}
+use mathlib.Core.List.{List, [], _∷_}
+use mathlib.Core.Bool.{Bool, true, false, cond, _&&_, false≢true, true≢false}
+use lib.ListN.{length, getD, drop, set, drop-of-length-le}
+use lib.Seq.{drop-cons}
+use lib.Dec.{eqb}
+use native.Mathlib.Omega.{arith}
+use native.Mathlib.Numerals.{add-one}
+use mathlib.Core.Logic.{_⊎_, ⊎-elim}
+use denote.Enum.Declared.{tagOf}
+use Rattle.joiner.proofs.Outcome.{the-type}
+use borrow.Author.Tests.{eq-eqb, ne-eqb}
+use Rattle.joiner.specs.declared.Joiner.{Joiner}
+use Rattle.joiner.specs.declared.Joined.{Joined}
+use Rattle.joiner.specs.declared.Stepped.{Stepped}
+use Rattle.joiner.specs.declared.Outcome.{Outcome}
+use Rattle.joiner.specs.declared.Outcome.the-variants.{More, Line, Refused}
+use Rattle.joiner.specs.Lines.{Kind, CR, LF, GRAVE, plain, kindOf}
+use Rattle.joiner.specs.Step.{byteStep, stepBy, endStep, marks, gets, stored, pushed, st, steppedOf, reachable}
+use Rattle.joiner.specs.Join.{Ran, ran, run, goOn, joinOf}
+
+-- ---- a byte's kind
+
+pub kind-cr : (x : ℕ) → x ≡ 13 → kindOf x ≡ CR
+unfolding kindOf
+kind-cr x e = simp e
+
+pub kind-lf : (x : ℕ) → x ≡ 10 → kindOf x ≡ LF
+unfolding kindOf
+kind-lf x e = simp e
+
+pub kind-grave : (x : ℕ) → x ≡ 96 → kindOf x ≡ GRAVE
+unfolding kindOf
+kind-grave x e = simp e
+
+pub kind-plain : (x : ℕ) → (x ≡ 13 → ⊥) → (x ≡ 10 → ⊥) → (x ≡ 96 → ⊥) → kindOf x ≡ plain
+unfolding kindOf
+kind-plain x a b c = simp (ne-eqb x 13 a, ne-eqb x 10 b, ne-eqb x 96 c)
+
+-- ---- what a byte does
+
+-- what `step` ensures
+abbrev pub Done : Joiner → List ℕ → ℕ → Stepped → List ℕ → Type 0
+Done s b x r b′ = (r ≡ steppedOf (byteStep s x)) × (b′ ≡ stored (s .held) b (byteStep s x .put))
+
+module _ (s : Joiner) (x : ℕ) where
+  pub step-cr : x ≡ 13 → byteStep s x ≡ endStep true s
+  unfolding byteStep
+  step-cr e = simp (kind-cr x e)
+
+  pub step-lf-dropped : x ≡ 10 → s .cr ≡ true → byteStep s x ≡ marks (s .grave) s
+  unfolding byteStep
+  step-lf-dropped e r = simp (kind-lf x e, r)
+
+  pub step-lf : x ≡ 10 → s .cr ≡ false → byteStep s x ≡ endStep false s
+  unfolding byteStep
+  step-lf e r = simp (kind-lf x e, r)
+
+  pub step-waits : x ≡ 96 → s .grave ≡ false → byteStep s x ≡ marks true s
+  unfolding byteStep
+  step-waits e g = simp (kind-grave x e, g)
+
+  pub step-plain : (x ≡ 13 → ⊥) → (x ≡ 10 → ⊥) → (x ≡ 96 → ⊥) → s .grave ≡ false → byteStep s x ≡ gets (x ∷ []) s
+  unfolding byteStep
+  step-plain a b c g = simp (kind-plain x a b c, g)
+
+  pub step-pair : (x ≡ 13 → ⊥) → (x ≡ 10 → ⊥) → s .grave ≡ true → byteStep s x ≡ gets (96 ∷ x ∷ []) s
+  unfolding byteStep kindOf
+  step-pair a b g = simp (ne-eqb x 13 a, ne-eqb x 10 b, g) (go (eqb x 96))
+    where
+      go : (t : Bool) → stepBy (cond t GRAVE plain) true (s .cr) x s ≡ gets (96 ∷ x ∷ []) s
+      go true = refl
+      go false = refl
+
+-- ---- what `step` leaves behind, from what its calls of `push` left behind
+
+module _ (s r₁ : Joiner) (b b₁ : List ℕ) (x : ℕ) where
+  pub plain-done : (x ≡ 13 → ⊥) → (x ≡ 10 → ⊥) → (x ≡ 96 → ⊥) → s .grave ≡ false
+      → r₁ ≡ pushed (st (s .held) (s .grave) false (s .over)) → b₁ ≡ set b (s .held) x
+      → Done s b x (record { state = r₁; outcome = More }) b₁
+  plain-done h₁ h₂ h₃ g e₁ f₁ = rw (step-plain s x h₁ h₂ h₃ g) (cc, f₁)
+
+  pub pair-done : (r₂ : Joiner) (b₂ : List ℕ) → (x ≡ 13 → ⊥) → (x ≡ 10 → ⊥) → s .grave ≡ true
+      → r₁ ≡ pushed (st (s .held) false false (s .over)) → b₁ ≡ set b (s .held) 96
+      → r₂ ≡ pushed r₁ → b₂ ≡ set b₁ (r₁ .held) x
+      → Done s b x (record { state = r₂; outcome = More }) b₂
+  pair-done r₂ b₂ h₁ h₂ g e₁ f₁ e₂ f₂ = rw (step-pair s x h₁ h₂ g) (cc, cc)
+
+-- ---- a call, with one byte more
+
+abbrev pub isMore : Outcome → Bool
+isMore More = true
+isMore (Line k) = false
+isMore (Refused k p) = false
+
+on-more : (o : Outcome) {r : Ran} (d : Ran) → isMore o ≡ true → goOn o r d ≡ r
+on-more More d e = refl
+on-more (Line k) d e = absurd (false≢true e)
+on-more (Refused k q) d e = absurd (false≢true e)
+
+on-stop : (o : Outcome) (r : Ran) {d : Ran} → isMore o ≡ false → goOn o r d ≡ d
+on-stop More r e = absurd (true≢false e)
+on-stop (Line k) r e = refl
+on-stop (Refused k q) r e = refl
+
+module _ (n : ℕ) (s : Joiner) (b : List ℕ) (x : ℕ) (xs : List ℕ) where
+  pub cons-more : isMore (byteStep s x .out) ≡ true
+      → run n s b (x ∷ xs) ≡ run (suc n) (byteStep s x .state) (stored (s .held) b (byteStep s x .put)) xs
+  unfolding run
+  cons-more e = on-more (byteStep s x .out) _ e
+
+  pub cons-stop : isMore (byteStep s x .out) ≡ false
+      → run n s b (x ∷ xs) ≡ ran (byteStep s x .state) (suc n) (byteStep s x .out) (stored (s .held) b (byteStep s x .put))
+  unfolding run
+  cons-stop e = on-stop (byteStep s x .out) _ e
+
+-- ---- a turn of the loop of `join`: what is known of the byte's step, and where the call then is
+
+-- the arms of the `match`, by the tag
+pub tag-more : (o : Outcome) → tagOf the-type o ≡ 0 → isMore o ≡ true
+tag-more More h = refl
+tag-more (Line k) h = absurd (omega arith)
+tag-more (Refused k p) h = absurd (omega arith)
+
+pub tag-stop : (o : Outcome) → (tagOf the-type o ≡ 1) ⊎ (tagOf the-type o ≡ 2) → isMore o ≡ false
+tag-stop More h = absurd (⊎-elim (λ e. omega arith) (λ e. omega arith) h)
+tag-stop (Line k) h = refl
+tag-stop (Refused k p) h = refl
+
+module _ (R : Ran) (i : ℕ) (s : Joiner) (b p : List ℕ) (h : i < length p) (inv : R ≡ run i s b (drop i p))
+    (r : Stepped) (b′ : List ℕ) (d : Done s b (getD p i 0) r b′) where
+  pub turn-more : isMore (r .outcome) ≡ true → R ≡ run (i + 1) (r .state) b′ (drop (i + 1) p)
+  turn-more m =
+      inv
+      ∙ ap (run i s b) (drop-cons p i 0 h)
+      ∙ cons-more i s b (getD p i 0) (drop (suc i) p) (ap (λ (q : Stepped). isMore (q .outcome)) (sym (d .0)) ∙ m)
+      ∙ rw (d .0, d .1, add-one i) refl
+
+  pub turn-stop : isMore (r .outcome) ≡ false → R ≡ ran (r .state) (i + 1) (r .outcome) b′
+  turn-stop m =
+      inv
+      ∙ ap (run i s b) (drop-cons p i 0 h)
+      ∙ cons-stop i s b (getD p i 0) (drop (suc i) p) (ap (λ (q : Stepped). isMore (q .outcome)) (sym (d .0)) ∙ m)
+      ∙ rw (d .0, d .1, add-one i) refl
+
+-- a call that is not refused answers as its run does
+pub answered : (s : Joiner) (b p : List ℕ) (R : Ran) → length b ≡ 1024 → reachable s ≡ true → run 0 s b p ≡ R
+    → (R .answer ≡ joinOf s b p .answer) × (R .buffer ≡ joinOf s b p .buffer)
+unfolding joinOf
+answered s b p R l h e = simp (eq-eqb (length b) 1024 l, h, e) (refl, refl)
+
+-- the part is used up
+pub run-end : (n : ℕ) (s : Joiner) (b p : List ℕ) → length p ≤ n → run n s b (drop n p) ≡ ran s n More b
+unfolding run
+run-end n s b p h = rw (drop-of-length-le p h)
+
+-- no more is used than there is
+run-used : (n : ℕ) (s : Joiner) (b p : List ℕ) → run n s b p .answer .used ≤ n + length p
+unfolding run
+run-used n s b [] = omega arith
+run-used n s b (x ∷ xs) = go (isMore (byteStep s x .out)) refl (run-used (suc n) (byteStep s x .state) (stored (s .held) b (byteStep s x .put)) xs)
+  where
+    go : (m : Bool) → isMore (byteStep s x .out) ≡ m
+        → run (suc n) (byteStep s x .state) (stored (s .held) b (byteStep s x .put)) xs .answer .used ≤ suc n + length xs
+        → run n s b (x ∷ xs) .answer .used ≤ n + suc (length xs)
+    go true e r = rw (cons-more n s b x xs e) (omega arith)
+    go false e r = rw (cons-stop n s b x xs e) (omega arith)
+
+pub used-within : (s : Joiner) (b p : List ℕ) → joinOf s b p .answer .used ≤ length p
+unfolding joinOf
+used-within s b p = go (eqb (length b) 1024 && reachable s)
+  where
+    go : (t : Bool) → cond t (run 0 s b p) (ran s 0 (Refused 19 0) b) .answer .used ≤ length p
+    go true = omega (arith, run-used 0 s b p)
+    go false = omega arith
+
+-- what a caller has of the answer
+pub answer-within : (r : Joined) (s : Joiner) (b p : List ℕ) → r ≡ joinOf s b p .answer → r .used ≤ length p
+answer-within r s b p e = rw e (used-within s b p)

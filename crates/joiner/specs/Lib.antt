@@ -1,0 +1,4 @@
+pub mod Lines
+pub mod Step
+pub mod Join
+pub mod Calls
