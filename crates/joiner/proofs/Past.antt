@@ -6,19 +6,20 @@ use native.Mathlib.Nat.{le-refl, add-sub-of-le}
 use native.Mathlib.Numerals.{add-one}
 use mathlib.Core.Path.{_≡_, refl, sym, ap, _∙_}
 use mathlib.Core.List.{List, [], _∷_}
-use mathlib.Core.Bool.{Bool, true, false, false≢true, true≢false}
+use mathlib.Core.Bool.{Bool, true, false, _&&_, cond, false≢true, true≢false}
 use mathlib.Core.Logic.{_⊎_, inl, inr, ⊎-elim}
 use lib.ListN.{length, drop, set, length-set}
+use lib.Dec.{eqb}
+use borrow.Author.Tests.{eqb-true}
 use lib.Seq.{drop-set-lt, drop-drop, set-out}
 use Rattle.joiner.specs.declared.Joiner.{Joiner}
-use Rattle.joiner.specs.declared.Joined.{Joined}
 use Rattle.joiner.specs.declared.Outcome.{Outcome}
 use Rattle.joiner.specs.declared.Outcome.the-variants.{More, Line, Refused}
 use Rattle.joiner.specs.Lines.{Kind, CR, LF, GRAVE, plain, kindOf}
-use Rattle.joiner.specs.Step.{byteStep, stepBy, st, more, stored, lineOf}
+use Rattle.joiner.specs.Step.{byteStep, stepBy, st, more, stored, lineOf, reachable}
 use Rattle.joiner.specs.Join.{Ran, ran, run, joinOf}
 use Rattle.joiner.proofs.Laws.{isMore, cons-more, cons-stop}
-use Rattle.joiner.proofs.Reach.{Fine, fine-step, room, more-room, more-full}
+use Rattle.joiner.proofs.Reach.{Fine, to-fine, fine-step, room, more-room, more-full}
 
 -- how far the text reaches: what is held, or the line just ended
 abbrev pub reach : Outcome → ℕ → ℕ
@@ -106,3 +107,61 @@ past n s b (x ∷ xs) f l = go (isMore (byteStep s x .out)) refl
         let q : Kept (s .held) (s′ .held) b b′ = by-more (kindOf x) (s .held) (s .grave) (s .cr) (s .over) x b l e in
         rw (cons-more n s b x xs e) (kept-then q (r (q .long ∙ l)))
     go false e r = rw (cons-stop n s b x xs e) (by-stop (kindOf x) (s .held) (s .grave) (s .cr) (s .over) x b f e)
+
+-- THE THEOREM: a call, from any state, on a buffer of any length and any part, leaves the buffer past the text held, or past the line
+-- just ended, as it was; where it is refused as 19, the whole of it
+pub past-join : (s : Joiner) (b p : List ℕ)
+    → let R : Ran = joinOf s b p in
+    let k : ℕ = reach (R .answer .outcome) (R .answer .state .held) in
+    drop k (R .buffer) ≡ drop k b
+unfolding joinOf
+past-join s b p = go (eqb (length b) 1024) (reachable s) refl refl
+  where
+    go : (t u : Bool) → eqb (length b) 1024 ≡ t → reachable s ≡ u
+        → let R : Ran = cond (t && u) (run 0 s b p) (ran s 0 (Refused 19 0) b) in
+        let k : ℕ = reach (R .answer .outcome) (R .answer .state .held) in
+        drop k (R .buffer) ≡ drop k b
+    go true true e f = past 0 s b p (to-fine s f) (eqb-true (length b) 1024 e) .same
+    go true false e f = refl
+    go false u e f = refl
+
+-- a call on an empty part uses none and changes nothing
+pub empty-part : (s : Joiner) (b : List ℕ) → (joinOf s b [] .answer .state ≡ s) × (joinOf s b [] .answer .used ≡ 0) × (joinOf s b [] .buffer ≡ b)
+unfolding joinOf run
+empty-part s b = go (eqb (length b) 1024 && reachable s)
+  where
+    go : (t : Bool)
+        → let R : Ran = cond t (ran s 0 More b) (ran s 0 (Refused 19 0) b) in
+        (R .answer .state ≡ s) × (R .answer .used ≡ 0) × (R .buffer ≡ b)
+    go true = (refl, refl, refl)
+    go false = (refl, refl, refl)
+
+-- a buffer of another length, or a state that no capture leads to, is refused as 19 with nothing used and nothing changed
+pub refused-whole : (s : Joiner) (b p : List ℕ) → eqb (length b) 1024 && reachable s ≡ false → joinOf s b p ≡ ran s 0 (Refused 19 0) b
+unfolding joinOf
+refused-whole s b p e = rw e
+
+-- a call that ends no line uses the whole part
+run-all : (n : ℕ) (s : Joiner) (b p : List ℕ) → isMore (run n s b p .answer .outcome) ≡ true → run n s b p .answer .used ≡ n + length p
+unfolding run
+run-all n s b [] = λ e. omega arith
+run-all n s b (x ∷ xs) = go (isMore (byteStep s x .out)) refl (run-all (suc n) (byteStep s x .state) (stored (s .held) b (byteStep s x .put)) xs)
+  where
+    R : Ran
+    R = run (suc n) (byteStep s x .state) (stored (s .held) b (byteStep s x .put)) xs
+
+    go : (m : Bool) → isMore (byteStep s x .out) ≡ m
+        → (isMore (R .answer .outcome) ≡ true → R .answer .used ≡ suc n + length xs)
+        → isMore (run n s b (x ∷ xs) .answer .outcome) ≡ true → run n s b (x ∷ xs) .answer .used ≡ n + suc (length xs)
+    go true e r = rw (cons-more n s b x xs e) (λ h. omega (arith, r h))
+    go false e r = rw (cons-stop n s b x xs e) (λ h. absurd (false≢true (sym e ∙ h)))
+
+pub more-uses-all : (s : Joiner) (b p : List ℕ) → isMore (joinOf s b p .answer .outcome) ≡ true → joinOf s b p .answer .used ≡ length p
+unfolding joinOf
+more-uses-all s b p = go (eqb (length b) 1024 && reachable s)
+  where
+    go : (t : Bool)
+        → let R : Ran = cond t (run 0 s b p) (ran s 0 (Refused 19 0) b) in
+        isMore (R .answer .outcome) ≡ true → R .answer .used ≡ length p
+    go true h = omega (arith, run-all 0 s b p h)
+    go false h = absurd (false≢true h)

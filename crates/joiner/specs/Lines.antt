@@ -96,6 +96,10 @@ endingOf c = endingFrom begin c
 unfoldable pub trusted : ℕ → ℕ → Bool
 trusted x e = not (eqb x 96) && not (eqb x 13) && not (eqb x 10) && (eqb e 13 || eqb e 10)
 
+-- what is then open: a line with nothing in it, and whether that end was a CR
+unfoldable pub freshAfter : ℕ → Open
+freshAfter e = open′ [] false (eqb e 13)
+
 -- ---- what holds of every line given: no GRAVE is left waiting where pairs run from the left, and no CR and no LF is in it
 
 unfoldable pub waitsAfter : Bool → List ℕ → Bool
