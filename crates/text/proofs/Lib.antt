@@ -1,0 +1,5 @@
+pub mod Basics
+pub mod Scans
+pub mod Slices
+pub mod Writes
+pub mod Decimals

@@ -1,0 +1,75 @@
+-- Runs of stores into lent room, and the answers of what writes into it. Assumes nothing.
+use Prim.Native.Nat.{ℕ, suc, zero, _+_, _-_, _<_, _≤_, min}
+use mathlib.Core.Path.{_≡_, refl, sym, ap, _∙_}
+use mathlib.Core.List.{List, [], _∷_, _++_}
+use native.Mathlib.Nat.{add-zero}
+use native.Mathlib.Numerals.{add-one}
+use native.Mathlib.Omega.{arith}
+use borrow.Author.Tests.{le-leb, lt-leb}
+use lib.ListN.{length, getD, take, drop, set, length-set}
+use lib.Seq.{sets, length-sets, sets-eq, set-out, take-nil, take-suc, take-all, length-take-le}
+use Rattle.text.specs.declared.Answer.{Answer}
+use Rattle.text.specs.declared.Answer.the-variants.{Wrote, Refused}
+use Rattle.text.specs.Room.{wrote, fitted, filled}
+
+module _ {A : Type 0} where
+  -- two runs of stores after one another are one
+  pub sets-append : (xs ys l : List A) (i : ℕ) → sets (sets l i xs) (i + length xs) ys ≡ sets l i (xs ++ ys)
+  sets-append [] ys l i = ap (λ (n : ℕ). sets l n ys) (add-zero i)
+  sets-append (x ∷ xs) ys l i =
+      let e : i + suc (length xs) ≡ suc i + length xs = omega arith in
+      ap (λ (n : ℕ). sets (sets (set l i x) (suc i) xs) n ys) e ∙ sets-append xs ys (set l i x) (suc i)
+
+  -- stores at or past the end change nothing
+  pub sets-past : (xs l : List A) (i : ℕ) → length l ≤ i → sets l i xs ≡ l
+  sets-past [] l i h = refl
+  sets-past (x ∷ xs) l i h = ap (λ (m : List A). sets m (suc i) xs) (set-out l i x h) ∙ sets-past xs l (suc i) (omega arith)
+
+  -- nothing is stored in no room
+  pub sets-nil : (xs : List A) (i : ℕ) → sets [] i xs ≡ []
+  sets-nil xs i = sets-past xs [] i (omega arith)
+
+  -- of a text only what has room is stored
+  pub sets-cut : (xs l : List A) (i n : ℕ) → min (length l - i) (length xs) ≤ n → sets l i (take n xs) ≡ sets l i xs
+  sets-cut [] l i n h = ap (λ (m : List A). sets l i m) (take-nil n)
+  sets-cut (x ∷ xs) l i zero h = sym (sets-past (x ∷ xs) l i (omega arith))
+  sets-cut (x ∷ xs) l i (suc n) h = sets-cut xs (set l i x) (suc i) n (omega (arith, length-set l i x))
+
+  -- one more of a copy
+  pub copy-more : (s l : List A) (at i : ℕ) (d : A) → i < length s → set (sets l at (take i s)) (at + i) (getD s i d) ≡ sets l at (take (i + 1) s)
+  copy-more s l at i d h =
+      let e : at + i ≡ at + length (take i s) = omega (arith, length-take-le i s (omega arith)) in
+      ap (λ (n : ℕ). set (sets l at (take i s)) n (getD s i d)) e
+      ∙ sets-append (take i s) (getD s i d ∷ []) l at
+      ∙ ap (sets l at) (sym (take-suc s i d h))
+      ∙ ap (λ (n : ℕ). sets l at (take n s)) (sym (add-one i))
+
+-- a text that has room fills the room's start
+pub sets-fill : (room t : List ℕ) → length t ≤ length room → sets room 0 t ≡ wrote room t
+unfolding wrote
+sets-fill room t h = let e : 0 + length t ≡ length t = omega arith in sets-eq t room 0 (omega arith) ∙ ap (λ (k : ℕ). t ++ drop k room) e
+
+-- the room is as long as it was
+pub sets-length : (l : List ℕ) (i : ℕ) (xs : List ℕ) → length (sets l i xs) ≡ length l
+sets-length l i xs = length-sets l i xs
+
+-- the answer and the room, where the text has room and where it has none
+pub fitted-room : (n : ℕ) (t : List ℕ) → length t ≤ n → fitted n t ≡ Wrote (length t)
+unfolding fitted
+fitted-room n t h = rw (le-leb (length t) n h)
+
+pub fitted-none : (n : ℕ) (t : List ℕ) → n < length t → fitted n t ≡ Refused 19 0
+unfolding fitted
+fitted-none n t h = rw (lt-leb (length t) n h)
+
+pub filled-room : (room t : List ℕ) → length t ≤ length room → filled room t ≡ wrote room t
+unfolding filled
+filled-room room t h = rw (le-leb (length t) (length room) h)
+
+pub filled-none : (room t : List ℕ) → length room < length t → filled room t ≡ room
+unfolding filled
+filled-none room t h = rw (lt-leb (length t) (length room) h)
+
+-- what a writer that tested the room leaves
+pub filled-sets : (room t : List ℕ) → length t ≤ length room → sets room 0 t ≡ filled room t
+filled-sets room t h = sets-fill room t h ∙ sym (filled-room room t h)

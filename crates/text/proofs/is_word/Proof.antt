@@ -1,0 +1,32 @@
+-- `text::is_word` meets its contract.
+use mathlib.Core.Path.{_≡_, refl, sym, ap, _∙_}
+use Rattle.text.specs.Bytes.{isWord}
+use borrow.Author.Needs.{needs}
+use Rattle.text.proofs.is_word.Statement.{statement}
+use Rattle.text.proofs.is_word.Tie as tie
+use Rattle.text.proofs.is_word.Reads as reads
+use Rattle.text.proofs.is_word.Lts as lts
+use Rattle.text.proofs.is_digit.Reads as is-digit-reads
+use Rattle.text.proofs.is_letter.Reads as is-letter-reads
+
+is-letter-requires : tie.Need-is-letter-requires
+is-letter-requires c κs = search needs
+
+returns : tie.Need-returns
+unfolding isWord
+returns c = rw (← c .before .is-letter .ensures, c .if1 .taken)
+
+is-digit-requires : tie.Need-is-digit-requires
+is-digit-requires c κs = search needs
+
+returns-2 : tie.Need-returns-2
+unfolding isWord
+returns-2 c = rw (← c .before .before .before .is-letter .ensures, c .before .before .if1 .left, ← c .before .is-digit .ensures, c .if2 .taken)
+
+returns-3 : tie.Need-returns-3
+unfolding isWord
+returns-3 c = rw (← c .before .before .before .is-letter .ensures, c .before .before .if1 .left, ← c .before .is-digit .ensures, c .if2 .left)
+
+pub is-word-spec : {M : Type 1} → statement M
+is-word-spec =
+    tie.close (tie.spec is-letter-requires returns is-digit-requires returns-2 returns-3)

@@ -1,0 +1,4 @@
+pub mod Lists
+pub mod Bytes
+pub mod Decimal
+pub mod Room
