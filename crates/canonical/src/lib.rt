@@ -1,0 +1,1 @@
+// Canonical writing of a line.

@@ -1,0 +1,4 @@
+pub mod Forms
+pub mod Targets
+pub mod Answers
+pub mod Automata

@@ -1,0 +1,33 @@
+-- The command: its parts, one for each term, as numbers and the bytes that they stand for.
+use Prim.Native.Nat.{ℕ}
+use mathlib.Core.List.{List}
+use mathlib.Core.Bool.{cond}
+use mathlib.Core.Option.{Option, none, some}
+use Rattle.text.specs.Lists.{given}
+use Rattle.terms.specs.Signs.{Sign, raws, stands}
+use Rattle.words.specs.declared.Kind.{Kind}
+use Rattle.words.specs.declared.Kind.the-variants.{Mere, Keep, Level, Place, Entries}
+use Rattle.forms.specs.Forms.{Entry, Property, isKeep, isLevel, isPlace, entriesOf}
+use Rattle.forms.specs.Targets.{Target}
+
+-- an option's argument: a number is told by its digits, which have no leading zero, and `all` by itself; a source or destination by the bytes that
+-- it stands for; display and output by their items
+pub data Argument : Type 0 where
+  number : List ℕ → Argument
+  text : List ℕ → Argument
+  items : List Entry → Argument
+
+abbrev pub argumentBy : Kind → List Sign → Option Argument
+argumentBy Mere t = none
+argumentBy Keep t = cond (isKeep (raws t)) (some (number (raws t))) none
+argumentBy Level t = cond (isLevel (raws t)) (some (number (raws t))) none
+argumentBy Place t = cond (isPlace t) (some (text (stands t))) none
+argumentBy Entries t = given (entriesOf t) (λ es. some (items es))
+
+-- A command is the list of its parts. An option and its argument are two terms, so two parts; the argument's has the option's number again.
+pub data Item : Type 0 where
+  verb : ℕ → Item
+  option : ℕ → Item
+  argument : ℕ → Argument → Item
+  target : Target → Item
+  prop : Property → Item

@@ -1,0 +1,5 @@
+pub mod Command
+pub mod Reading
+pub mod Records
+pub mod Cursor
+pub mod Lines

@@ -1,0 +1,4 @@
+pub mod Signs
+pub mod Terms
+pub mod Rows
+pub mod Scan
