@@ -5,10 +5,10 @@ use mathlib.Core.List.{List, [], _∷_, _++_, map, append-assoc, append-nil}
 use mathlib.Core.Bool.{Bool, true, false, cond, not, _&&_, _||_}
 use mathlib.Core.Option.{Option, none, some}
 use native.Mathlib.Omega.{arith}
-use lib.ListN.{length, length-append}
+use lib.ListN.{length, take, drop, length-append}
 use lib.Dec.{eqb, leb, ltb}
 use borrow.Author.Tests.{eqb-true, eq-eqb, ne-eqb, le-leb, lt-leb, leb-true, leb-false}
-use Rattle.text.specs.Lists.{allOf, anyOf, upTo, past, onto, parts, each, between, isNil}
+use Rattle.text.specs.Lists.{allOf, anyOf, upTo, past, onto, parts, each, between, isNil, given, every}
 use Rattle.text.specs.Bytes.{sameBytes}
 
 pub and-l : (a b : Bool) → a && b ≡ true → a ≡ true
@@ -22,6 +22,10 @@ and-r false b e = cc
 pub and-in : (a b : Bool) → a ≡ true → b ≡ true → a && b ≡ true
 and-in a b e f = simp (e, f)
 
+pub and-false : (t : Bool) → t && false ≡ false
+and-false true = refl
+and-false false = refl
+
 pub or-l : (a b : Bool) → a || b ≡ false → a ≡ false
 or-l true b e = cc
 or-l false b e = refl
@@ -30,6 +34,25 @@ pub or-r : (a b : Bool) → a || b ≡ false → b ≡ false
 or-r true b e = cc
 or-r false b e = e
 
+pub or-in-l : (a b : Bool) → a ≡ true → a || b ≡ true
+or-in-l a b e = simp e
+
+pub or-in-r : (a b : Bool) → b ≡ true → a || b ≡ true
+or-in-r true b e = refl
+or-in-r false b e = e
+
+pub or-case : {P : Type 0} (a b : Bool) → a || b ≡ true → (a ≡ true → P) → (b ≡ true → P) → P
+or-case true b e f g = f refl
+or-case false b e f g = g e
+
+-- what a test that is turned round says, both ways
+pub neg : (t : Bool) → not t ≡ true → t ≡ false
+neg true p = cc
+neg false p = refl
+
+pub neg-in : (t : Bool) → t ≡ false → not t ≡ true
+neg-in t p = simp p
+
 -- which of the two cases a test is
 pub either : {P : Type 0} (b : Bool) → (b ≡ true → P) → (b ≡ false → P) → P
 either true f g = f refl
@@ -37,6 +60,26 @@ either false f g = g refl
 
 pub no-case : {P : Type 0} → true ≡ false → P
 no-case e = absurd (let z : _≡_ {A = ℕ} 0 1 = cc in omega arith)
+
+-- what an answer was made from
+pub record Given {A B : Type 0} (o : Option A) (f : A → Option B) (b : B) : Type 0 where
+  pub what : A
+  pub is : o ≡ some what
+  pub gives : f what ≡ some b
+
+pub given-some : {A B : Type 0} (o : Option A) (f : A → Option B) (b : B) → given o f ≡ some b → Given o f b
+given-some none f b e = let z : _≡_ {A = ℕ} 0 1 = cc in absurd (omega arith)
+given-some (some a) f b e = record { what = a; is = refl; gives = e }
+
+pub cond-some : {B : Type 0} (x : Bool) (o : Option B) (b : B) → cond x o none ≡ some b → (x ≡ true) × (o ≡ some b)
+cond-some true o b e = (refl, e)
+cond-some false o b e = let z : _≡_ {A = ℕ} 0 1 = cc in absurd (omega arith)
+
+pub none-some : {P B : Type 0} (b : B) → none ≡ some b → P
+none-some b e = absurd (let z : _≡_ {A = ℕ} 0 1 = cc in omega arith)
+
+pub same-some : {B : Type 0} (a b : B) → some a ≡ some b → a ≡ b
+same-some a b e = cc
 
 pub same-eq : (a b : List ℕ) → sameBytes a b ≡ true → a ≡ b
 unfolding sameBytes
@@ -52,6 +95,9 @@ pub same-refl : (a : List ℕ) → sameBytes a a ≡ true
 unfolding sameBytes
 same-refl [] = refl
 same-refl (x ∷ a) = simp (eq-eqb x x refl, same-refl a)
+
+pub differ-eq : (a b : List ℕ) → sameBytes a b ≡ false → a ≡ b → ⊥
+differ-eq a b d e = no-case (sym (ap (λ (x : List ℕ). sameBytes x b) e ∙ same-refl b) ∙ d)
 
 module _ {A : Type 0} (f : A → Bool) where
   pub all-append : (a b : List A) → allOf f a ≡ true → allOf f b ≡ true → allOf f (a ++ b) ≡ true
@@ -127,20 +173,12 @@ module _ {A : Type 0} (f : A → Bool) where
       let l = and-l (not (anyOf f w)) (allOf (λ v. not (anyOf f v)) ws) h in
       let r = and-r (not (anyOf f w)) (allOf (λ v. not (anyOf f v)) ws) h in
       parts-at a x (w ++ each x ws) n e ∙ ap (λ z. a ∷ z) (parts-each x w ws e (neg (anyOf f w) l) r)
-    where
-      neg : (t : Bool) → not t ≡ true → t ≡ false
-      neg true p = cc
-      neg false p = refl
 
   pub parts-between : (x : A) (a : List A) (ws : List (List A)) → f x ≡ true → allOf (λ w. not (anyOf f w)) (a ∷ ws) ≡ true
       → parts f (between x (a ∷ ws)) ≡ a ∷ ws
   unfolding between allOf
   parts-between x a ws e h =
       parts-each x a ws e (neg (anyOf f a) (and-l (not (anyOf f a)) (allOf (λ v. not (anyOf f v)) ws) h)) (and-r (not (anyOf f a)) (allOf (λ v. not (anyOf f v)) ws) h)
-    where
-      neg : (t : Bool) → not t ≡ true → t ≡ false
-      neg true p = cc
-      neg false p = refl
 
   -- each part of a text passes a test that each of its elements passes
   pub parts-all : (g : A → Bool) (a : List A) → allOf f a ≡ true → allOf (allOf f) (parts g a) ≡ true
@@ -155,3 +193,132 @@ module _ {A : Type 0} (f : A → Bool) where
       go : (t : Bool) → g x ≡ t → (ws : List (List A)) → allOf (allOf f) ws ≡ true → allOf (allOf f) (cond (g x) ([] ∷ ws) (onto x ws)) ≡ true
       go true e ws ih = simp e ih
       go false e ws ih = simp e (put ws ih)
+
+  -- the parts of a text: at least one, and nothing in them parts
+  pub parts-some : (a : List A) → isNil (parts f a) ≡ false
+  unfolding parts
+  parts-some [] = refl
+  parts-some (x ∷ a) = go (f x) refl (parts f a)
+    where
+      go : (t : Bool) → f x ≡ t → (ps : List (List A)) → isNil (cond (f x) ([] ∷ ps) (onto x ps)) ≡ false
+      go true e ps = rw e
+      go false e [] = rw e
+      go false e (p ∷ ps) = rw e
+
+  pub parts-solid : (a : List A) → allOf (λ w. not (anyOf f w)) (parts f a) ≡ true
+  unfolding parts allOf anyOf
+  parts-solid [] = refl
+  parts-solid (x ∷ a) = go (f x) refl (parts f a) (parts-solid a)
+    where
+      put : f x ≡ false → (ps : List (List A)) → allOf (λ w. not (anyOf f w)) ps ≡ true → allOf (λ w. not (anyOf f w)) (onto x ps) ≡ true
+      put e [] h = simp e
+      put e (p ∷ ps) h = simp e h
+
+      go : (t : Bool) → f x ≡ t → (ps : List (List A)) → allOf (λ w. not (anyOf f w)) ps ≡ true → allOf (λ w. not (anyOf f w)) (cond (f x) ([] ∷ ps) (onto x ps)) ≡ true
+      go true e ps h = simp e h
+      go false e ps h = simp e (put e ps h)
+
+  -- the parts with what parts them between them are the text, where only x parts
+  pub between-parts : (x : A) → ((y : A) → f y ≡ true → y ≡ x) → (a : List A) → between x (parts f a) ≡ a
+  unfolding parts between each
+  between-parts x u [] = refl
+  between-parts x u (y ∷ a) = go (f y) refl (parts f a) (parts-some a) (between-parts x u a)
+    where
+      go : (t : Bool) → f y ≡ t → (ps : List (List A)) → isNil ps ≡ false → between x ps ≡ a → between x (cond (f y) ([] ∷ ps) (onto y ps)) ≡ y ∷ a
+      go t e [] h ih = no-case h
+      go true e (p ∷ ps) h ih = rw e (ap (λ (z : A). z ∷ (p ++ each x ps)) (sym (u y e)) ∙ ap (λ (z : List A). y ∷ z) ih)
+      go false e (p ∷ ps) h ih = rw e (ap (λ (z : List A). y ∷ z) ih)
+
+  -- nothing in the parts, nor in what stands between them
+  pub any-each : (x : A) (ws : List (List A)) → f x ≡ false → allOf (λ w. not (anyOf f w)) ws ≡ true → anyOf f (each x ws) ≡ false
+  unfolding allOf each anyOf
+  any-each x [] e k = refl
+  any-each x (w ∷ ws) e k =
+      let l = neg (anyOf f w) (and-l (not (anyOf f w)) (allOf (λ v. not (anyOf f v)) ws) k) in
+      simp e (any-append w (each x ws) l (any-each x ws e (and-r (not (anyOf f w)) (allOf (λ v. not (anyOf f v)) ws) k)))
+
+  pub any-between : (x : A) (ws : List (List A)) → f x ≡ false → allOf (λ w. not (anyOf f w)) ws ≡ true → anyOf f (between x ws) ≡ false
+  unfolding allOf between anyOf
+  any-between x [] e k = refl
+  any-between x (w ∷ ws) e k =
+      let l = neg (anyOf f w) (and-l (not (anyOf f w)) (allOf (λ v. not (anyOf f v)) ws) k) in
+      any-append w (each x ws) l (any-each x ws e (and-r (not (anyOf f w)) (allOf (λ v. not (anyOf f v)) ws) k))
+
+  -- all of the parts, and what stands between them
+  pub all-each : (x : A) (ws : List (List A)) → f x ≡ true → allOf (allOf f) ws ≡ true → allOf f (each x ws) ≡ true
+  unfolding allOf each
+  all-each x [] e k = refl
+  all-each x (w ∷ ws) e k =
+      simp e (all-append w (each x ws) (and-l (allOf f w) (allOf (allOf f) ws) k) (all-each x ws e (and-r (allOf f w) (allOf (allOf f) ws) k)))
+
+  pub all-between : (x : A) (ws : List (List A)) → f x ≡ true → allOf (allOf f) ws ≡ true → allOf f (between x ws) ≡ true
+  unfolding allOf between
+  all-between x [] e k = refl
+  all-between x (w ∷ ws) e k =
+      all-append w (each x ws) (and-l (allOf f w) (allOf (allOf f) ws) k) (all-each x ws e (and-r (allOf f w) (allOf (allOf f) ws) k))
+
+  -- what is known of all is known of a part
+  pub all-take : (n : ℕ) (a : List A) → allOf f a ≡ true → allOf f (take n a) ≡ true
+  unfolding allOf
+  all-take zero a p = refl
+  all-take (suc n) [] p = refl
+  all-take (suc n) (x ∷ a) p = simp (and-l (f x) (allOf f a) p, all-take n a (and-r (f x) (allOf f a) p))
+
+  pub all-drop : (n : ℕ) (a : List A) → allOf f a ≡ true → allOf f (drop n a) ≡ true
+  unfolding allOf
+  all-drop zero a p = p
+  all-drop (suc n) [] p = refl
+  all-drop (suc n) (x ∷ a) p = all-drop n a (and-r (f x) (allOf f a) p)
+
+  pub all-left : (a b : List A) → allOf f (a ++ b) ≡ true → allOf f a ≡ true
+  unfolding allOf
+  all-left [] b p = refl
+  all-left (x ∷ a) b p = simp (and-l (f x) (allOf f (a ++ b)) p, all-left a b (and-r (f x) (allOf f (a ++ b)) p))
+
+  pub all-right : (a b : List A) → allOf f (a ++ b) ≡ true → allOf f b ≡ true
+  unfolding allOf
+  all-right [] b p = p
+  all-right (x ∷ a) b p = all-right a b (and-r (f x) (allOf f (a ++ b)) p)
+
+  -- what holds of all holds of what holds less often
+  pub all-mono : (g : A → Bool) → ((x : A) → f x ≡ true → g x ≡ true) → (s : List A) → allOf f s ≡ true → allOf g s ≡ true
+  unfolding allOf
+  all-mono g m [] e = refl
+  all-mono g m (x ∷ s) e = simp (m x (and-l (f x) (allOf f s) e), all-mono g m s (and-r (f x) (allOf f s) e))
+
+  -- all of what a function makes
+  pub all-map : {B : Type 0} (h : B → A) (s : List B) → allOf f (map h s) ≡ allOf (λ x. f (h x)) s
+  unfolding allOf
+  all-map h [] = refl
+  all-map h (x ∷ s) = rw (all-map h s)
+
+  -- none passes the test: both ways to say it
+  pub none-any : (s : List A) → allOf (λ x. not (f x)) s ≡ true → anyOf f s ≡ false
+  unfolding allOf anyOf
+  none-any [] e = refl
+  none-any (x ∷ s) e = simp (neg (f x) (and-l (not (f x)) (allOf (λ y. not (f y)) s) e), none-any s (and-r (not (f x)) (allOf (λ y. not (f y)) s) e))
+
+  pub any-none : (s : List A) → anyOf f s ≡ false → allOf (λ x. not (f x)) s ≡ true
+  unfolding allOf anyOf
+  any-none [] e = refl
+  any-none (x ∷ s) e = simp (or-l (f x) (anyOf f s) e, any-none s (or-r (f x) (anyOf f s) e))
+
+-- all of them made again from what they were written as
+module _ {A B : Type 0} (read : B → Option A) (write : A → B) (ok : A → Bool) (again : (a : A) → ok a ≡ true → read (write a) ≡ some a) where
+  pub every-again : (s : List A) → allOf ok s ≡ true → every (map read (map write s)) ≡ some s
+  unfolding allOf every
+  every-again [] k = refl
+  every-again (a ∷ s) k = simp (again a (and-l (ok a) (allOf ok s) k), every-again s (and-r (ok a) (allOf ok s) k))
+
+-- what is known of each that was made is known of all of them, and they are as many
+module _ {A B : Type 0} (read : B → Option A) (fine : B → Bool) (ok : A → Bool) (good : (b : B) (a : A) → read b ≡ some a → fine b ≡ true → ok a ≡ true) where
+  pub every-ok : (s : List B) (r : List A) → every (map read s) ≡ some r → allOf fine s ≡ true → (length r ≡ length s) × (isNil r ≡ isNil s) × (allOf ok r ≡ true)
+  unfolding every allOf
+  every-ok [] r h k = let z : r ≡ [] = cc in rw z (refl, refl, refl)
+  every-ok (b ∷ s) r h k =
+      let g = given-some (read b) (λ a. given (every (map read s)) (λ q. some (a ∷ q))) r h in
+      let t = given-some (every (map read s)) (λ q. some (g .what ∷ q)) r (g .gives) in
+      let z : r ≡ g .what ∷ t .what = cc (t .gives) in
+      let o = good b (g .what) (g .is) (and-l (fine b) (allOf fine s) k) in
+      let ih = every-ok s (t .what) (t .is) (and-r (fine b) (allOf fine s) k) in
+      rw z (ap suc (ih .0), refl, and-in (ok (g .what)) (allOf ok (t .what)) o (ih .2))

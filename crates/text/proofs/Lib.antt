@@ -1,4 +1,5 @@
 pub mod Basics
+pub mod Classes
 pub mod Scans
 pub mod Slices
 pub mod Writes

@@ -12,7 +12,7 @@ use lib.Dec.{eqb}
 use borrow.Author.Tests.{eq-eqb, ne-eqb}
 use Rattle.text.specs.Lists.{allOf, anyOf, runLen, walk}
 use Rattle.text.specs.Bytes.{sameBytes}
-use Rattle.text.proofs.Basics.{and-l, and-r, no-case}
+use Rattle.text.proofs.Basics.{and-l, and-r, and-false}
 
 -- a list from a place on, for any default
 pub step-of : {A : Type 0} (l : List A) (i : ℕ) (d : A) → i < length l → drop i l ≡ getD l i d ∷ drop (i + 1) l
@@ -116,11 +116,7 @@ unfolding sameBytes
 same-length [] [] h = absurd (h refl)
 same-length [] (y ∷ b) h = refl
 same-length (x ∷ a) [] h = refl
-same-length (x ∷ a) (y ∷ b) h = rw (same-length a b (λ e. h (ap suc e))) (both (eqb x y))
-  where
-    both : (t : Bool) → t && false ≡ false
-    both true = refl
-    both false = refl
+same-length (x ∷ a) (y ∷ b) h = rw (same-length a b (λ e. h (ap suc e))) (and-false (eqb x y))
 
 -- two texts from a place on: the same byte there, another byte there, both past their ends
 pub same-on : (a b : List ℕ) (i : ℕ) → i < length a → i < length b → getD a i 0 ≡ getD b i 0
