@@ -1,0 +1,607 @@
+//! Lines: valid by the grammar, damaged, noise, and at the edges of every limit.
+
+use crate::damage::{damage, LOADED_BYTES};
+use crate::rng::Rng;
+use crate::tree::{segment_text, tag, TAGS};
+
+pub const VERBS: [&str; 13] = [
+    "cd", "create", "delete", "dump", "exit", "help", "load", "reset", "set", "show", "start",
+    "stop", "version",
+];
+
+/// An option's names and what its argument is.
+struct OptionRow {
+    long: &'static str,
+    short: &'static str,
+    argument: Argument,
+}
+
+#[derive(Clone, Copy)]
+enum Argument {
+    None,
+    Location,
+    Items,
+    Keep,
+    Level,
+}
+
+const fn row(long: &'static str, short: &'static str, argument: Argument) -> OptionRow {
+    OptionRow {
+        long,
+        short,
+        argument,
+    }
+}
+
+/// An option without a short name has its long one twice.
+const OPTIONS: [OptionRow; 12] = [
+    row("all", "a", Argument::None),
+    row("destination", "destination", Argument::Location),
+    row("display", "d", Argument::Items),
+    row("examine", "x", Argument::None),
+    row("force", "f", Argument::None),
+    row("help", "h", Argument::None),
+    row("keep", "k", Argument::Keep),
+    row("level", "l", Argument::Level),
+    row("output", "o", Argument::Items),
+    row("source", "source", Argument::Location),
+    row("version", "v", Argument::None),
+    row("wait", "w", Argument::None),
+];
+
+const EDGE_NUMBERS: [&str; 15] = [
+    "0",
+    "1",
+    "9",
+    "00",
+    "01",
+    "65534",
+    "65535",
+    "65536",
+    "99999",
+    "4294967294",
+    "4294967295",
+    "4294967296",
+    "9999999999",
+    "42949672950",
+    "18446744073709551616",
+];
+
+const NAMES: [&str; 8] = [
+    "Name",
+    "a",
+    "EnabledState",
+    "Z_9",
+    "x1",
+    "cpu4",
+    "SESSION",
+    "all",
+];
+
+/// Pieces that make a line look like a command without being one.
+const PIECES: [&str; 40] = [
+    "show", "set", "help", "cd", "Show", "reset", "-f", "-force", "-level", "-l", "all", "-k", "0",
+    "02", "-display", "-d", "-output", "a", "a=b", "a==b", "=", "==", "/", "\\", ".", "..",
+    "/system1", "cpu*", "SESSION", "SESSION1", "(", ")", "(a,b)", "\"", "\"\"", "`", "` ", "-",
+    "-source", ",",
+];
+
+/// One line: about half are valid by the grammar, the others damaged, noise or at an edge.
+pub fn line(rng: &mut Rng) -> Vec<u8> {
+    match rng.below(100) {
+        0..=49 => valid_line(rng),
+        50..=71 => {
+            let mut line = valid_line(rng);
+            damage(rng, &mut line);
+            line
+        }
+        72..=81 => edge_line(rng),
+        82..=91 => noise_of_pieces(rng),
+        _ => noise_of_bytes(rng),
+    }
+}
+
+/// A line made by the grammar; only rarely does it pass a limit of length or count.
+pub fn valid_line(rng: &mut Rng) -> Vec<u8> {
+    if rng.percent(1) {
+        return vec![b' '; rng.below(4)];
+    }
+    let mut line = Vec::new();
+    let verb = *rng.pick(&VERBS);
+    line.extend_from_slice(verb.as_bytes());
+    let options = rng.mostly_small(12);
+    put_options(rng, options, &mut line);
+    let others = rng.mostly_small(8);
+    if verb == "help" {
+        for _ in 0..others {
+            put_term(rng, &mut line, put_name);
+        }
+    } else {
+        if rng.percent(70) {
+            put_term(rng, &mut line, put_target);
+            for _ in 0..others {
+                put_term(rng, &mut line, put_property);
+            }
+        } else {
+            put_assignments(rng, others, &mut line);
+        }
+    }
+    if rng.percent(5) {
+        put_spaces(rng, &mut line);
+    }
+    if rng.percent(5) {
+        line.insert(0, b' ');
+    }
+    line
+}
+
+/// Properties where no target stands: the first of them must have an operator.
+fn put_assignments(rng: &mut Rng, count: usize, line: &mut Vec<u8>) {
+    for index in 0..count {
+        if index == 0 {
+            put_term(rng, line, put_assignment);
+        } else {
+            put_term(rng, line, put_property);
+        }
+    }
+}
+
+fn put_term(rng: &mut Rng, line: &mut Vec<u8>, put: fn(&mut Rng, &mut Vec<u8>)) {
+    put_spaces(rng, line);
+    put(rng, line);
+}
+
+fn put_spaces(rng: &mut Rng, line: &mut Vec<u8>) {
+    let count = if rng.percent(92) {
+        1
+    } else {
+        rng.between(2, 5)
+    };
+    line.resize(line.len() + count, b' ');
+}
+
+/// So many different options in random order, each by its long or short name.
+fn put_options(rng: &mut Rng, count: usize, line: &mut Vec<u8>) {
+    let mut order: [usize; 12] = std::array::from_fn(|index| index);
+    for index in 0..count {
+        let other = rng.between(index, order.len() - 1);
+        order.swap(index, other);
+        let option = &OPTIONS[order[index]];
+        put_spaces(rng, line);
+        line.push(b'-');
+        let name = if rng.percent(50) {
+            option.long
+        } else {
+            option.short
+        };
+        line.extend_from_slice(name.as_bytes());
+        match option.argument {
+            Argument::None => {}
+            Argument::Location => put_term(rng, line, put_location),
+            Argument::Items => put_term(rng, line, put_items),
+            Argument::Keep => put_term(rng, line, put_number),
+            Argument::Level if rng.percent(30) => line.extend_from_slice(b" all"),
+            Argument::Level => put_term(rng, line, put_number),
+        }
+    }
+}
+
+fn put_number(rng: &mut Rng, line: &mut Vec<u8>) {
+    if rng.percent(3) {
+        line.extend_from_slice(rng.pick_text(&EDGE_NUMBERS));
+        return;
+    }
+    let number = rng.next() as u32 >> rng.below(32);
+    line.extend_from_slice(number.to_string().as_bytes());
+}
+
+/// A source or destination: no unescaped quote, and no bare `-` at its start.
+fn put_location(rng: &mut Rng, line: &mut Vec<u8>) {
+    const SCHEMES: [&str; 5] = ["ftp://host/a.bin", "/system1/log1", "file:", "`-x", "\\a"];
+    line.extend_from_slice(rng.pick_text(&SCHEMES));
+    for _ in 0..rng.mostly_small(20) {
+        let byte = *rng.pick(b"aZ0_:/\\.-=,()*@%` \"");
+        put_escaped_outside(rng, byte, line);
+    }
+}
+
+/// A byte outside quotes, escaped where it must be and sometimes where it need not.
+fn put_escaped_outside(rng: &mut Rng, byte: u8, line: &mut Vec<u8>) {
+    let can_be = b" `\",=-/\\.()*".contains(&byte);
+    let must_be = b" `\"".contains(&byte);
+    if must_be || (can_be && rng.percent(30)) {
+        line.push(b'`');
+    } else if !can_be && rng.percent(5) {
+        // Before such a byte a GRAVE stands for itself.
+        line.push(b'`');
+    }
+    line.push(byte);
+}
+
+fn put_items(rng: &mut Rng, line: &mut Vec<u8>) {
+    for index in 0..rng.between(1, 4) {
+        if index > 0 {
+            line.push(b',');
+        }
+        put_name(rng, line);
+        if rng.percent(50) {
+            line.push(b'=');
+            put_value(rng, line);
+        }
+    }
+}
+
+fn put_name(rng: &mut Rng, line: &mut Vec<u8>) {
+    if rng.percent(80) {
+        line.extend_from_slice(rng.pick_text(&NAMES));
+        return;
+    }
+    let length = if rng.percent(5) {
+        rng.between(62, 66)
+    } else {
+        rng.below(12)
+    };
+    line.push(*rng.pick(b"abcXYZ"));
+    put_word_bytes(rng, length, line);
+}
+
+fn put_word_bytes(rng: &mut Rng, length: usize, line: &mut Vec<u8>) {
+    for _ in 0..length {
+        line.push(*rng.pick(b"abcxyzABCXYZ0189_"));
+    }
+}
+
+fn put_property(rng: &mut Rng, line: &mut Vec<u8>) {
+    if rng.percent(30) {
+        put_name(rng, line);
+    } else {
+        put_assignment(rng, line);
+    }
+}
+
+fn put_assignment(rng: &mut Rng, line: &mut Vec<u8>) {
+    put_name(rng, line);
+    line.extend_from_slice(if rng.percent(70) { b"=" } else { b"==" });
+    put_value(rng, line);
+}
+
+fn put_value(rng: &mut Rng, line: &mut Vec<u8>) {
+    if rng.percent(25) {
+        put_list(rng, line);
+    } else {
+        put_item(rng, line);
+    }
+}
+
+fn put_list(rng: &mut Rng, line: &mut Vec<u8>) {
+    let count = if rng.percent(5) {
+        rng.between(14, 17)
+    } else {
+        rng.between(1, 4)
+    };
+    line.push(b'(');
+    for index in 0..count {
+        if index > 0 {
+            line.push(b',');
+        }
+        put_item(rng, line);
+    }
+    line.push(b')');
+}
+
+fn put_item(rng: &mut Rng, line: &mut Vec<u8>) {
+    match rng.below(3) {
+        0 => {
+            let length = rng.between(1, 8);
+            put_word_bytes(rng, length, line);
+        }
+        1 => put_plain_item(rng, line),
+        _ => put_quoted_item(rng, line),
+    }
+}
+
+/// A plain item: the bytes that would end it are escaped.
+fn put_plain_item(rng: &mut Rng, line: &mut Vec<u8>) {
+    for _ in 0..=rng.mostly_small(12) {
+        let byte = *rng.pick(b"aZ0_:/\\.-*@ `\",=()");
+        if b",=()".contains(&byte) {
+            line.extend_from_slice(&[b'`', byte]);
+        } else {
+            put_escaped_outside(rng, byte, line);
+        }
+    }
+}
+
+/// A quoted item: inside, GRAVE and `"` are escaped, and a GRAVE before others is itself.
+fn put_quoted_item(rng: &mut Rng, line: &mut Vec<u8>) {
+    line.push(b'"');
+    for _ in 0..rng.mostly_small(14) {
+        match *rng.pick(b"aZ0_ ,=()-/\\.*:`\"~G") {
+            b'G' => line.extend_from_slice(b"`x"),
+            byte @ (b'`' | b'"') => line.extend_from_slice(&[b'`', byte]),
+            byte => line.push(byte),
+        }
+    }
+    line.push(b'"');
+}
+
+/// A target: `SESSION`, the root, or a path with either separator.
+fn put_target(rng: &mut Rng, line: &mut Vec<u8>) {
+    match rng.below(20) {
+        0 => line.extend_from_slice(b"SESSION"),
+        1 => line.push(separator(rng)),
+        _ => put_path(rng, line),
+    }
+}
+
+fn separator(rng: &mut Rng) -> u8 {
+    if rng.percent(75) {
+        b'/'
+    } else {
+        b'\\'
+    }
+}
+
+fn put_path(rng: &mut Rng, line: &mut Vec<u8>) {
+    if rng.percent(60) {
+        line.push(separator(rng));
+    }
+    let count = if rng.percent(5) {
+        rng.between(14, 17)
+    } else {
+        rng.between(1, 4)
+    };
+    for index in 1..=count {
+        put_segment(rng, index == count, line);
+        if index < count {
+            line.push(separator(rng));
+        }
+    }
+}
+
+fn put_segment(rng: &mut Rng, is_last: bool, line: &mut Vec<u8>) {
+    match rng.below(12) {
+        0 => line.push(b'.'),
+        1 => line.extend_from_slice(b".."),
+        2 if is_last => {
+            line.extend_from_slice(tag(rng));
+            line.push(b'*');
+        }
+        _ => {
+            let number = if rng.percent(95) {
+                rng.between(1, 12)
+            } else {
+                rng.between(1, 65_535)
+            };
+            let tag = tag(rng).to_vec();
+            line.extend_from_slice(&segment_text(&tag, number as u16));
+        }
+    }
+}
+
+/// A line at the edge of one limit of the paper.
+pub fn edge_line(rng: &mut Rng) -> Vec<u8> {
+    match rng.below(10) {
+        0 => line_of_about_1024(rng),
+        1 => line_of_about_64_terms(rng),
+        2 => line_of_about_32_properties(rng),
+        3 => long_name(rng),
+        4 => long_tag(rng),
+        5 => edge_number(rng),
+        6 => many_segments(rng),
+        7 => repeated_option(rng),
+        8 => option_at_the_end(rng),
+        _ => many_list_items(rng),
+    }
+}
+
+/// 1,020 to 1,028 bytes: a valid beginning with a value or spaces that fill it up.
+fn line_of_about_1024(rng: &mut Rng) -> Vec<u8> {
+    let length = rng.between(1020, 1028);
+    let mut line = valid_line(rng);
+    match rng.below(4) {
+        0 => line.resize(length, b' '),
+        1 => {
+            line.extend_from_slice(b" Name=");
+            line.resize(length, b'x');
+        }
+        2 => {
+            line.extend_from_slice(b" Name=\"");
+            line.resize(length.saturating_sub(1), b' ');
+            line.push(b'"');
+        }
+        _ => {
+            while line.len() + 2 <= length {
+                line.extend_from_slice(b"`.");
+            }
+            line.resize(length, b'`');
+        }
+    }
+    line
+}
+
+/// 60 to 70 terms, sometimes with a dangling end that has to come first.
+fn line_of_about_64_terms(rng: &mut Rng) -> Vec<u8> {
+    let count = rng.between(60, 70);
+    let mut line = b"show".to_vec();
+    for _ in 1..count {
+        let term = rng.pick_text(&[" a", " -f", " a=b", " /", "  \"\"", " ` "]);
+        line.extend_from_slice(term);
+    }
+    match rng.below(6) {
+        0 => line.push(b'`'),
+        1 => line.extend_from_slice(b" \"open"),
+        2 => line.push(0x7f),
+        _ => {}
+    }
+    line
+}
+
+/// 30 to 34 properties or topics, with a late option or a bad one now and then.
+fn line_of_about_32_properties(rng: &mut Rng) -> Vec<u8> {
+    let count = rng.between(30, 34);
+    let verb = rng.pick_text(&["set /", "help", "show a=b", "set -f SESSION"]);
+    let mut line = verb.to_vec();
+    for _ in 0..count {
+        match rng.below(60) {
+            0 => line.extend_from_slice(b" -f"),
+            1 => line.extend_from_slice(b" 9"),
+            2..=20 if !verb.starts_with(b"help") => line.extend_from_slice(b" a=\"b c\""),
+            _ => line.extend_from_slice(b" Name"),
+        }
+    }
+    if rng.percent(40) {
+        let last = rng.pick_text(&[" -x", " 9", " a=", " ok"]);
+        line.extend_from_slice(last);
+    }
+    line
+}
+
+/// Names of 63 to 66 bytes, as property, topic or item.
+fn long_name(rng: &mut Rng) -> Vec<u8> {
+    let before = rng.pick_text(&["show / ", "help ", "show -d ", "show -o a,", "set "]);
+    let after = rng.pick_text(&["", "=b", "==\"b\"", "=(c,d)"]);
+    let mut line = before.to_vec();
+    line.push(b'n');
+    let length = rng.between(62, 65);
+    put_word_bytes(rng, length, &mut line);
+    line.extend_from_slice(after);
+    line
+}
+
+/// Tags of 15 to 18 letters, numbered or starred.
+fn long_tag(rng: &mut Rng) -> Vec<u8> {
+    let mut line = b"show /system1/".to_vec();
+    let length = rng.between(15, 18);
+    for _ in 0..length {
+        line.push(*rng.pick(b"abcXYZ"));
+    }
+    let after = rng.pick_text(&["1", "*", "65535", "", "0"]);
+    line.extend_from_slice(after);
+    line
+}
+
+fn edge_number(rng: &mut Rng) -> Vec<u8> {
+    let before = rng.pick_text(&[
+        "show -level ",
+        "show -k ",
+        "show -keep ",
+        "cd /cpu",
+        "cd cpu",
+        "cd ../disk",
+    ]);
+    let mut line = before.to_vec();
+    line.extend_from_slice(rng.pick_text(&EDGE_NUMBERS));
+    line
+}
+
+/// Options of which one may come twice, by the same name or the other.
+fn repeated_option(rng: &mut Rng) -> Vec<u8> {
+    let mut line = b"show".to_vec();
+    for _ in 0..2 {
+        let count = rng.between(1, 4);
+        put_options(rng, count, &mut line);
+    }
+    line
+}
+
+/// An option whose argument is missing, or is itself an option.
+fn option_at_the_end(rng: &mut Rng) -> Vec<u8> {
+    let mut line = b"show".to_vec();
+    let option = rng.pick_text(&[" -l", " -keep", " -o", " -display", " -source", " -f"]);
+    line.extend_from_slice(option);
+    let after = rng.pick_text(&["", " ", "   ", " -f", " -", " `-f", " -l 1"]);
+    line.extend_from_slice(after);
+    line
+}
+
+/// 15 to 18 segments.
+fn many_segments(rng: &mut Rng) -> Vec<u8> {
+    let mut line = b"cd ".to_vec();
+    if rng.percent(50) {
+        line.push(separator(rng));
+    }
+    let count = rng.between(15, 18);
+    for index in 1..=count {
+        let segment = rng.pick_text(&[".", "..", "a1"]);
+        line.extend_from_slice(segment);
+        if index < count || rng.percent(5) {
+            line.push(separator(rng));
+        }
+    }
+    line
+}
+
+/// Lists of 15 to 18 items.
+fn many_list_items(rng: &mut Rng) -> Vec<u8> {
+    let before = rng.pick_text(&["set a=(", "show -d a=(", "set a==("]);
+    let mut line = before.to_vec();
+    let count = rng.between(15, 18);
+    for index in 0..count {
+        if index > 0 {
+            line.push(b',');
+        }
+        put_item(rng, &mut line);
+    }
+    line.push(b')');
+    line
+}
+
+/// Words and marks of the dialect in no order.
+pub fn noise_of_pieces(rng: &mut Rng) -> Vec<u8> {
+    let mut line = Vec::new();
+    if rng.percent(80) {
+        line.extend_from_slice(rng.pick_text(&VERBS));
+        line.push(b' ');
+    }
+    for _ in 0..rng.below(9) {
+        line.extend_from_slice(rng.pick_text(&PIECES));
+        if rng.percent(60) {
+            line.push(b' ');
+        }
+    }
+    line
+}
+
+/// Bytes over a biased alphabet; a few lines have any byte at all.
+pub fn noise_of_bytes(rng: &mut Rng) -> Vec<u8> {
+    let length = if rng.percent(90) {
+        rng.below(40)
+    } else {
+        rng.below(1100)
+    };
+    let odd_percent = *rng.pick(&[0, 0, 0, 2, 100]);
+    let mut line = Vec::with_capacity(length + 5);
+    if rng.percent(50) {
+        line.extend_from_slice(b"set a=");
+    }
+    for _ in 0..length {
+        let byte = if rng.percent(odd_percent) {
+            rng.byte()
+        } else {
+            *rng.pick(LOADED_BYTES)
+        };
+        line.push(byte);
+    }
+    line
+}
+
+/// Texts handed to a resolver as a target: paths by grammar, damaged, and noise.
+pub fn loose_target(rng: &mut Rng) -> Vec<u8> {
+    let mut text = Vec::new();
+    match rng.below(10) {
+        0 => {}
+        1 => text.extend_from_slice(rng.pick_text(&PIECES)),
+        2 => text = noise_of_bytes(rng),
+        3 => {
+            put_target(rng, &mut text);
+            damage(rng, &mut text);
+        }
+        4 => {
+            text.extend_from_slice(rng.pick_text(&TAGS));
+            text.extend_from_slice(rng.pick_text(&EDGE_NUMBERS));
+        }
+        _ => put_target(rng, &mut text),
+    }
+    text
+}
