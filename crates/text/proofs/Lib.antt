@@ -4,3 +4,4 @@ pub mod Scans
 pub mod Slices
 pub mod Writes
 pub mod Decimals
+pub mod Only
