@@ -7,7 +7,7 @@ use crate::refusal::{
     Refusal, ARGUMENT_MALFORMED, ARGUMENT_MISSING, NO_SUCH_OPTION, NO_SUCH_VERB, OPTION_REPEATED,
     OPTION_TOO_LATE, PROPERTY_MALFORMED, ROOM_TOO_SMALL, TARGET_MALFORMED, TOO_MANY_PROPERTIES,
 };
-use crate::terms::{terms_of, Term};
+use crate::terms::{find_terms, Term, Terms};
 use crate::value::{is_item_row, value_length};
 use crate::vocabulary::{
     name_length, option_number, takes_argument, verb_number, DISPLAY, HELP_VERB, KEEP, LEVEL,
@@ -45,7 +45,8 @@ pub fn target_part(line: &[u8]) -> Part {
 
 /// Gathers the line's records, and gives the target's part.
 pub(crate) fn gather(line: &[u8], gathered: &mut Gathered) -> Result<Part, Refusal> {
-    let terms = terms_of(line)?;
+    let mut terms = Terms::new();
+    find_terms(line, &mut terms)?;
     let Some((first, after_verb)) = terms.as_slice().split_first() else {
         gathered.push(Record::Blank);
         return Ok(Part::default());

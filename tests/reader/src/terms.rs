@@ -65,6 +65,13 @@ pub(crate) struct Terms {
 }
 
 impl Terms {
+    pub(crate) fn new() -> Terms {
+        Terms {
+            all: [Term::default(); MOST_TERMS],
+            count: 0,
+        }
+    }
+
     pub(crate) fn as_slice(&self) -> &[Term] {
         &self.all[..self.count]
     }
@@ -81,18 +88,14 @@ pub fn check_line(line: &[u8]) -> Result<(), Refusal> {
 }
 
 /// Rows 1 to 5, and the line's terms where none of them holds.
-pub(crate) fn terms_of(line: &[u8]) -> Result<Terms, Refusal> {
-    let mut terms = Terms {
-        all: [Term::default(); MOST_TERMS],
-        count: 0,
-    };
+pub(crate) fn find_terms(line: &[u8], terms: &mut Terms) -> Result<(), Refusal> {
+    terms.count = 0;
     scan_line(line, |index, scan| {
         if let Some(slot) = terms.all.get_mut(index) {
             *slot = scan.term();
             terms.count = index + 1;
         }
-    })?;
-    Ok(terms)
+    })
 }
 
 /// Goes over the line once, showing each term with its index, and judges rows 1 to 5 in order.
