@@ -1,0 +1,146 @@
+-- Written texts are read sign by sign as they were written. Assumes nothing.
+use Prim.Native.Nat.{ℕ, zero, suc, _+_, _-_, _<_, _≤_}
+use mathlib.Core.Path.{_≡_, refl, sym, ap, _∙_}
+use mathlib.Core.List.{List, [], _∷_, _++_, map, append-assoc, append-nil}
+use mathlib.Core.Bool.{Bool, true, false, cond, not, _&&_, _||_}
+use native.Mathlib.Omega.{arith}
+use lib.ListN.{length, length-append}
+use lib.Dec.{eqb, leb, ltb}
+use Rattle.terms.specs.Rows.{endMode}
+use Rattle.terms.specs.Signs.{Sign, after, bare, escaped, gives, isBare, quote, quoted, quotedEscaped, raw, raws, signs, twelve, two}
+use Rattle.terms.specs.Terms.{isGap}
+use Rattle.terms.specs.declared.Mode.{Mode}
+use Rattle.terms.specs.declared.Mode.the-variants.{In, InGrave, Out, OutGrave}
+use Rattle.text.specs.Bytes.{bytes, oneOf, printable}
+use Rattle.text.specs.Lists.{allOf, anyOf, between, each, upTo, walk}
+use Rattle.text.proofs.Basics.{and-l, and-r, and-in, no-case, all-append, neg}
+
+-- a byte that may be written bare
+abbrev pub okBare : ℕ → Bool
+okBare b = not (eqb b 32) && (not (eqb b 96) && (not (eqb b 34) && printable b))
+
+abbrev pub okQuoted : ℕ → Bool
+okQuoted b = not (eqb b 96) && (not (eqb b 34) && printable b)
+
+-- q: in quotes
+abbrev pub okSign : Bool → Sign → Bool
+okSign false (bare b) = okBare b
+okSign false (escaped b) = oneOf twelve b && printable b
+okSign false quote = true
+okSign false (quoted b) = false
+okSign false (quotedEscaped b) = false
+okSign true (bare b) = false
+okSign true (escaped b) = false
+okSign true quote = true
+okSign true (quoted b) = okQuoted b
+okSign true (quotedEscaped b) = oneOf two b && printable b
+
+abbrev pub turn : Bool → Sign → Bool
+turn q (bare b) = q
+turn q (escaped b) = q
+turn q quote = not q
+turn q (quoted b) = q
+turn q (quotedEscaped b) = q
+
+-- a text that a term can be: printable, no bare space, each sign where it can stand, quotes closed
+unfoldable pub good : Bool → List Sign → Bool
+good q [] = not q
+good q (x ∷ w) = okSign q x && good (turn q x) w
+
+abbrev pub modeOf : Bool → Mode
+modeOf false = Out
+modeOf true = In
+
+-- one sign
+sign-read : (q : Bool) (x : Sign) → okSign q x ≡ true → (r : List ℕ) → signs (modeOf q) (raw x ++ r) ≡ x ∷ signs (modeOf (turn q x)) r
+unfolding signs gives after
+sign-read false (bare b) e r =
+    let g = neg (eqb b 96) (and-l (not (eqb b 96)) (not (eqb b 34) && printable b) (and-r (not (eqb b 32)) (okQuoted b) e)) in
+    let h = neg (eqb b 34) (and-l (not (eqb b 34)) (printable b) (and-r (not (eqb b 96)) (not (eqb b 34) && printable b) (and-r (not (eqb b 32)) (okQuoted b) e))) in
+    simp (g, h)
+sign-read false (escaped b) e r = simp (and-l (oneOf twelve b) (printable b) e)
+sign-read false quote e r = refl
+sign-read false (quoted b) e r = cc
+sign-read false (quotedEscaped b) e r = cc
+sign-read true (bare b) e r = cc
+sign-read true (escaped b) e r = cc
+sign-read true quote e r = refl
+sign-read true (quoted b) e r =
+    let g = neg (eqb b 96) (and-l (not (eqb b 96)) (not (eqb b 34) && printable b) e) in
+    let h = neg (eqb b 34) (and-l (not (eqb b 34)) (printable b) (and-r (not (eqb b 96)) (not (eqb b 34) && printable b) e)) in
+    simp (g, h)
+sign-read true (quotedEscaped b) e r = simp (and-l (oneOf two b) (printable b) e)
+
+sign-end : (q : Bool) (x : Sign) → okSign q x ≡ true → (r : List ℕ) → endMode (modeOf q) (raw x ++ r) ≡ endMode (modeOf (turn q x)) r
+unfolding endMode after walk
+sign-end false (bare b) e r =
+    let g = neg (eqb b 96) (and-l (not (eqb b 96)) (not (eqb b 34) && printable b) (and-r (not (eqb b 32)) (okQuoted b) e)) in
+    let h = neg (eqb b 34) (and-l (not (eqb b 34)) (printable b) (and-r (not (eqb b 96)) (not (eqb b 34) && printable b) (and-r (not (eqb b 32)) (okQuoted b) e))) in
+    simp (g, h)
+sign-end false (escaped b) e r = refl
+sign-end false quote e r = refl
+sign-end false (quoted b) e r = cc
+sign-end false (quotedEscaped b) e r = cc
+sign-end true (bare b) e r = cc
+sign-end true (escaped b) e r = cc
+sign-end true quote e r = refl
+sign-end true (quoted b) e r =
+    let g = neg (eqb b 96) (and-l (not (eqb b 96)) (not (eqb b 34) && printable b) e) in
+    let h = neg (eqb b 34) (and-l (not (eqb b 34)) (printable b) (and-r (not (eqb b 96)) (not (eqb b 34) && printable b) e)) in
+    simp (g, h)
+sign-end true (quotedEscaped b) e r = refl
+
+-- a whole text, and whatever follows it
+pub good-read : (q : Bool) (w : List Sign) → good q w ≡ true → (r : List ℕ) → signs (modeOf q) (raws w ++ r) ≡ w ++ signs Out r
+unfolding good raws
+good-read false [] e r = refl
+good-read true [] e r = no-case (sym e)
+good-read q (x ∷ w) e r =
+    ap (signs (modeOf q)) (append-assoc (raw x) (raws w) r)
+    ∙ sign-read q x (and-l (okSign q x) (good (turn q x) w) e) (raws w ++ r)
+    ∙ ap (λ z. x ∷ z) (good-read (turn q x) w (and-r (okSign q x) (good (turn q x) w) e) r)
+
+pub good-end : (q : Bool) (w : List Sign) → good q w ≡ true → (r : List ℕ) → endMode (modeOf q) (raws w ++ r) ≡ endMode Out r
+unfolding good raws
+good-end false [] e r = refl
+good-end true [] e r = no-case (sym e)
+good-end q (x ∷ w) e r =
+    ap (endMode (modeOf q)) (append-assoc (raw x) (raws w) r)
+    ∙ sign-end q x (and-l (okSign q x) (good (turn q x) w) e) (raws w ++ r)
+    ∙ good-end (turn q x) w (and-r (okSign q x) (good (turn q x) w) e) r
+
+-- its bytes are printable, and no sign of it is a gap
+sign-clean : (q : Bool) (x : Sign) → okSign q x ≡ true → allOf printable (raw x) ≡ true
+unfolding allOf
+sign-clean false (bare b) e =
+    simp (and-r (not (eqb b 34)) (printable b) (and-r (not (eqb b 96)) (not (eqb b 34) && printable b) (and-r (not (eqb b 32)) (okQuoted b) e)))
+sign-clean false (escaped b) e = simp (and-r (oneOf twelve b) (printable b) e)
+sign-clean false quote e = refl
+sign-clean false (quoted b) e = cc
+sign-clean false (quotedEscaped b) e = cc
+sign-clean true (bare b) e = cc
+sign-clean true (escaped b) e = cc
+sign-clean true quote e = refl
+sign-clean true (quoted b) e = simp (and-r (not (eqb b 34)) (printable b) (and-r (not (eqb b 96)) (not (eqb b 34) && printable b) e))
+sign-clean true (quotedEscaped b) e = simp (and-r (oneOf two b) (printable b) e)
+
+pub good-clean : (q : Bool) (w : List Sign) → good q w ≡ true → allOf printable (raws w) ≡ true
+unfolding good raws allOf
+good-clean q [] e = refl
+good-clean q (x ∷ w) e =
+    all-append printable (raw x) (raws w) (sign-clean q x (and-l (okSign q x) (good (turn q x) w) e))
+    (good-clean (turn q x) w (and-r (okSign q x) (good (turn q x) w) e))
+
+sign-solid : (q : Bool) (x : Sign) → okSign q x ≡ true → isGap x ≡ false
+sign-solid false (bare b) e = neg (eqb b 32) (and-l (not (eqb b 32)) (okQuoted b) e)
+sign-solid true (bare b) e = cc
+sign-solid q (escaped b) e = refl
+sign-solid q quote e = refl
+sign-solid q (quoted b) e = refl
+sign-solid q (quotedEscaped b) e = refl
+
+pub good-solid : (q : Bool) (w : List Sign) → good q w ≡ true → anyOf isGap w ≡ false
+unfolding good anyOf
+good-solid q [] e = refl
+good-solid q (x ∷ w) e =
+    simp (sign-solid q x (and-l (okSign q x) (good (turn q x) w) e), good-solid (turn q x) w (and-r (okSign q x) (good (turn q x) w) e))

@@ -1,0 +1,9 @@
+pub mod Lexing
+pub mod Frame
+pub mod Values
+pub mod Names
+pub mod Entries
+pub mod Targets
+pub mod Places
+pub mod ReadBack
+pub mod Same
