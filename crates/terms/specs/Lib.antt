@@ -2,3 +2,5 @@ pub mod Signs
 pub mod Terms
 pub mod Rows
 pub mod Scan
+pub mod Marks
+pub mod Going
