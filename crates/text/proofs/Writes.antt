@@ -2,10 +2,12 @@
 use Prim.Native.Nat.{ℕ, suc, zero, _+_, _-_, _<_, _≤_, min}
 use mathlib.Core.Path.{_≡_, refl, sym, ap, _∙_}
 use mathlib.Core.List.{List, [], _∷_, _++_}
+use mathlib.Core.Bool.{Bool, true, false}
 use native.Mathlib.Nat.{add-zero}
 use native.Mathlib.Numerals.{add-one}
 use native.Mathlib.Omega.{arith}
-use borrow.Author.Tests.{le-leb, lt-leb}
+use borrow.Author.Tests.{le-leb, lt-leb, leb-true, leb-false}
+use lib.Dec.{leb}
 use lib.ListN.{length, getD, take, drop, set, length-set}
 use lib.Seq.{sets, length-sets, sets-eq, set-out, take-nil, take-suc, take-all, length-take-le}
 use Rattle.text.specs.declared.Answer.{Answer}
@@ -35,6 +37,18 @@ module _ {A : Type 0} where
   sets-cut (x ∷ xs) l i zero h = sym (sets-past (x ∷ xs) l i (omega arith))
   sets-cut (x ∷ xs) l i (suc n) h = sets-cut xs (set l i x) (suc i) n (omega (arith, length-set l i x))
 
+  -- the same at the room that is left
+  pub sets-room : (l : List A) (i : ℕ) (xs : List A) → sets l i xs ≡ sets l i (take (length l - i) xs)
+  sets-room l i xs = sym (sets-cut xs l i (length l - i) (omega arith))
+
+  -- a writer's next step: b holds t from the place `at` on, b′ more
+  module _ (o t b b′ : List A) (at w : ℕ) (held : b ≡ sets o at t) (place : w ≡ at + length t) where
+    pub then-sets : (s : List A) → b′ ≡ sets b w s → b′ ≡ sets o at (t ++ s)
+    then-sets s e = e ∙ rw (held, place) (sets-append t s o at)
+
+    pub then-set : (x : A) → b′ ≡ set b w x → b′ ≡ sets o at (t ++ (x ∷ []))
+    then-set x e = e ∙ rw (held, place) (sets-append t (x ∷ []) o at)
+
   -- one more of a copy
   pub copy-more : (s l : List A) (at i : ℕ) (d : A) → i < length s → set (sets l at (take i s)) (at + i) (getD s i d) ≡ sets l at (take (i + 1) s)
   copy-more s l at i d h =
@@ -52,6 +66,9 @@ sets-fill room t h = let e : 0 + length t ≡ length t = omega arith in sets-eq 
 -- the room is as long as it was
 pub sets-length : (l : List ℕ) (i : ℕ) (xs : List ℕ) → length (sets l i xs) ≡ length l
 sets-length l i xs = length-sets l i xs
+
+pub length-wrote : (room t : List ℕ) → length t ≤ length room → length (wrote room t) ≡ length room
+length-wrote room t h = ap length (sym (sets-fill room t h)) ∙ length-sets room 0 t
 
 -- the answer and the room, where the text has room and where it has none
 pub fitted-room : (n : ℕ) (t : List ℕ) → length t ≤ n → fitted n t ≡ Wrote (length t)
@@ -73,3 +90,11 @@ filled-none room t h = rw (lt-leb (length t) (length room) h)
 -- what a writer that tested the room leaves
 pub filled-sets : (room t : List ℕ) → length t ≤ length room → sets room 0 t ≡ filled room t
 filled-sets room t h = sets-fill room t h ∙ sym (filled-room room t h)
+
+-- the room is as long as it was, whether or not it fits
+pub length-filled : (room t : List ℕ) → length (filled room t) ≡ length room
+length-filled room t = go (leb (length t) (length room)) refl
+  where
+    go : (b : Bool) → leb (length t) (length room) ≡ b → length (filled room t) ≡ length room
+    go true e = let h = leb-true (length t) (length room) e in ap length (filled-room room t h) ∙ length-wrote room t h
+    go false e = ap length (filled-none room t (leb-false (length t) (length room) e))
