@@ -10,7 +10,7 @@ use lib.ListN.{length, take}
 use lib.Seq.{length-take-le}
 use lib.Dec.{ltb, eqb}
 use borrow.Author.Tests.{ltb-true, ltb-false}
-use Rattle.joiner.specs.Lines.{Kind, CR, LF, GRAVE, plain, kindOf, Given, line, refused, lineOrRefused, Open, open′, begin, Next, nextBy, next, linesFrom, linesOf}
+use Rattle.joiner.specs.Lines.{Kind, CR, LF, GRAVE, plain, kindOf, isPlain, Given, line, refused, lineOrRefused, Open, open′, begin, Next, nextBy, next, linesFrom, linesOf}
 use Rattle.joiner.specs.Lines.{waitsAfter, dangling, holdsEnd}
 
 -- ---- statements of every line
@@ -61,12 +61,6 @@ good-then t u g p q = record {
 }
 
 -- what a byte is not, by its kind
-abbrev isPlain : Kind → Bool
-isPlain CR = false
-isPlain LF = false
-isPlain GRAVE = false
-isPlain plain = true
-
 abbrev isEnd : Kind → Bool
 isEnd CR = true
 isEnd LF = true

@@ -12,14 +12,14 @@ use native.Mathlib.Numerals.{add-one}
 use mathlib.Core.Logic.{_⊎_, ⊎-elim}
 use denote.Enum.Declared.{tagOf}
 use Rattle.joiner.proofs.Outcome.{the-type}
-use borrow.Author.Tests.{eq-eqb, ne-eqb}
+use borrow.Author.Tests.{ne-eqb, eqb-true, lt-ltb, lt-leb}
 use Rattle.joiner.specs.declared.Joiner.{Joiner}
 use Rattle.joiner.specs.declared.Joined.{Joined}
 use Rattle.joiner.specs.declared.Stepped.{Stepped}
 use Rattle.joiner.specs.declared.Outcome.{Outcome}
 use Rattle.joiner.specs.declared.Outcome.the-variants.{More, Line, Refused}
-use Rattle.joiner.specs.Lines.{Kind, CR, LF, GRAVE, plain, kindOf}
-use Rattle.joiner.specs.Step.{byteStep, stepBy, endStep, marks, gets, stored, pushed, st, steppedOf, reachable}
+use Rattle.joiner.specs.Lines.{Kind, CR, LF, GRAVE, plain, kindOf, isPlain}
+use Rattle.joiner.specs.Step.{byteStep, stepBy, endStep, marks, gets, stored, pushed, st, steppedOf, reachable, more, Step}
 use Rattle.joiner.specs.Join.{Ran, ran, run, goOn, joinOf}
 
 -- ---- a byte's kind
@@ -39,6 +39,12 @@ kind-grave x e = simp e
 pub kind-plain : (x : ℕ) → (x ≡ 13 → ⊥) → (x ≡ 10 → ⊥) → (x ≡ 96 → ⊥) → kindOf x ≡ plain
 unfolding kindOf
 kind-plain x a b c = simp (ne-eqb x 13 a, ne-eqb x 10 b, ne-eqb x 96 c)
+
+pub is-plain : (k : Kind) → isPlain k ≡ true → k ≡ plain
+is-plain CR e = absurd (false≢true e)
+is-plain LF e = absurd (false≢true e)
+is-plain GRAVE e = absurd (false≢true e)
+is-plain plain e = refl
 
 -- ---- what a byte does
 
@@ -146,11 +152,46 @@ module _ (R : Ran) (i : ℕ) (s : Joiner) (b p : List ℕ) (h : i < length p) (i
       ∙ cons-stop i s b (getD p i 0) (drop (suc i) p) (ap (λ (q : Stepped). isMore (q .outcome)) (sym (d .0)) ∙ m)
       ∙ rw (d .0, d .1, add-one i) refl
 
--- a call that is not refused answers as its run does
-pub answered : (s : Joiner) (b p : List ℕ) (R : Ran) → length b ≡ 1024 → reachable s ≡ true → run 0 s b p ≡ R
+-- a turn of the loop of `copy`: a plain byte where there is room
+plain-step : (h x : ℕ) → h < 1024 → kindOf x ≡ plain
+    → byteStep (st h false false false) x ≡ record { state = st (h + 1) false false false; put = x ∷ []; out = More }
+unfolding byteStep more
+plain-step h x l e = simp (e, lt-ltb h 1024 l, lt-leb 1024 h l)
+
+pub turn-plain : (R : Ran) (i h : ℕ) (b p : List ℕ) → i < length p → h < 1024 → R ≡ run i (st h false false false) b (drop i p)
+    → isPlain (kindOf (getD p i 0)) ≡ true → R ≡ run (i + 1) (st (h + 1) false false false) (set b h (getD p i 0)) (drop (i + 1) p)
+turn-plain R i h b p l m inv e =
+    let x : ℕ = getD p i 0 in
+    let s : Joiner = st h false false false in
+    let f = plain-step h x m (is-plain (kindOf x) e) in
+    inv
+    ∙ ap (run i s b) (drop-cons p i 0 l)
+    ∙ cons-more i s b x (drop (suc i) p) (ap (λ (t : Step). isMore (t .out)) f)
+    ∙ ap (λ (t : Step). run (suc i) (t .state) (stored h b (t .put)) (drop (suc i) p)) f
+    ∙ rw (add-one i) refl
+
+-- a run of plain bytes from a state that has no flag
+pub unflagged : (s : Joiner) (i j h : ℕ) (b c d e : List ℕ) → s .grave ≡ false → s .cr ≡ false → s .over ≡ false
+    → run i (st (s .held) false false false) b d ≡ run j (st h false false false) c e
+    → run i s b d ≡ run j (st h (s .grave) (s .cr) (s .over)) c e
+unflagged s i j h b c d e = go (s .grave) (s .cr) (s .over)
+  where
+    go : (g r o : Bool) → g ≡ false → r ≡ false → o ≡ false → run i (st (s .held) false false false) b d ≡ run j (st h false false false) c e
+        → run i (st (s .held) g r o) b d ≡ run j (st h g r o) c e
+    go g r o p q w k = rw (p, q, w) k
+
+-- a call that is not refused has a buffer of 1,024 bytes, and answers as its run does
+pub fits-length : (s : Joiner) (b : List ℕ) → eqb (length b) 1024 && reachable s ≡ true → length b ≡ 1024
+fits-length s b e = go (eqb (length b) 1024) (eqb-true (length b) 1024) e
+  where
+    go : (t : Bool) → (t ≡ true → length b ≡ 1024) → t && reachable s ≡ true → length b ≡ 1024
+    go true k e = k refl
+    go false k e = absurd (false≢true e)
+
+pub answered : (s : Joiner) (b p : List ℕ) (R : Ran) → eqb (length b) 1024 && reachable s ≡ true → run 0 s b p ≡ R
     → (R .answer ≡ joinOf s b p .answer) × (R .buffer ≡ joinOf s b p .buffer)
 unfolding joinOf
-answered s b p R l h e = simp (eq-eqb (length b) 1024 l, h, e) (refl, refl)
+answered s b p R h e = rw (h, e) (refl, refl)
 
 -- the part is used up
 pub run-end : (n : ℕ) (s : Joiner) (b p : List ℕ) → length p ≤ n → run n s b (drop n p) ≡ ran s n More b

@@ -13,6 +13,12 @@ pub data Kind : Type 0 where
 unfoldable pub kindOf : ℕ → Kind
 kindOf x = cond (eqb x 13) CR (cond (eqb x 10) LF (cond (eqb x 96) GRAVE plain))
 
+abbrev pub isPlain : Kind → Bool
+isPlain CR = false
+isPlain LF = false
+isPlain GRAVE = false
+isPlain plain = true
+
 -- ---- a line at its end: it has 0 to 1,024 bytes after joining; a longer one is refused as 1, and of it the first 1,024 bytes are kept
 
 pub data Given : Type 0 where
