@@ -1,0 +1,70 @@
+-- `tree::twin` meets its contract.
+use Rattle.tree.proofs.twin.Statement.{statement}
+use Rattle.tree.proofs.twin.Tie as tie
+use Rattle.tree.proofs.twin.Reads as reads
+use Rattle.tree.proofs.twin.Lts as lts
+use Rattle.tree.proofs.same_node.Reads as same-node-reads
+use mathlib.Core.Path.{_≡_, refl, ap, sym, _∙_}
+use Prim.Native.Nat.{ℕ, suc, _≤_, _<_, _-_, _+_, _*_, _/_}
+use native.Mathlib.Omega.{arith}
+use borrow.Author.Needs.{needs}
+use lib.ListN.{length, getD, take, drop}
+use Rattle.tree.specs.Tree.{twinIn, twin}
+use Rattle.tree.proofs.CheckLaws.{whole-from, twin-start, twin-again, twin-stop, twin-end}
+
+abbrev Inv-loop : tie.InvT-loop
+Inv-loop e r n j₀ p₀ j p = (n ≡ length e / 22) × (j ≤ n) × (p ≡ 22 * j) × (twinIn (n - j) (drop p e) r ≡ twin e r)
+
+abbrev μ-loop : tie.MeasureT-loop
+μ-loop e r n j₀ p₀ j p = n - j
+
+loop-holds : tie.Need-loop-holds Inv-loop μ-loop
+loop-holds c = (omega arith, omega arith, omega arith, twin-start _ _ _ refl)
+
+sub-same-node : tie.Need-sub-same-node Inv-loop μ-loop
+sub-same-node c = omega arith
+
+part-same-node-start : tie.Need-part-same-node-start Inv-loop μ-loop
+part-same-node-start c = omega arith
+
+part-same-node-end : tie.Need-part-same-node-end Inv-loop μ-loop
+part-same-node-end c = omega arith
+
+same-node-requires : tie.Need-same-node-requires Inv-loop μ-loop
+same-node-requires c κs = (search (whole-from, needs), omega arith, omega arith)
+
+returns : tie.Need-returns Inv-loop μ-loop
+returns c = search (twin-stop, needs)
+
+add-p : tie.Need-add-p Inv-loop μ-loop
+add-p c = omega arith
+
+add-j : tie.Need-add-j Inv-loop μ-loop
+add-j c = omega arith
+
+loop-less : tie.Need-loop-less Inv-loop μ-loop
+loop-less c = omega arith
+
+loop-again : tie.Need-loop-again Inv-loop μ-loop
+loop-again c = (omega arith, omega arith, omega arith, search (twin-again, needs))
+
+returns-2 : tie.Need-returns-2 Inv-loop μ-loop
+returns-2 c = search (twin-end, needs)
+
+pub twin-spec : {M : Type 1} → statement M
+twin-spec =
+    tie.close
+    (tie.spec
+    Inv-loop
+    μ-loop
+    loop-holds
+    sub-same-node
+    part-same-node-start
+    part-same-node-end
+    same-node-requires
+    returns
+    add-p
+    add-j
+    loop-less
+    loop-again
+    returns-2)
