@@ -1,0 +1,20 @@
+-- `words::only` meets its contract.
+use mathlib.Core.Path.{_≡_, refl, sym, ap, _∙_}
+use borrow.Author.Needs.{needs}
+use Rattle.words.proofs.only.Statement.{statement}
+use Rattle.words.proofs.only.Tie as tie
+use Rattle.words.proofs.only.Reads as reads
+use Rattle.words.proofs.only.Lts as lts
+use Rattle.text.proofs.same.Reads as same-reads
+
+same-requires : tie.Need-same-requires
+same-requires c κs = search needs
+
+returns : tie.Need-returns
+returns c = rw (← c .before .same .ensures, c .if1 .taken)
+
+returns-2 : tie.Need-returns-2
+returns-2 c = rw (← c .before .same .ensures, c .if1 .left)
+
+pub only-spec : {M : Type 1} → statement M
+only-spec = tie.close (tie.spec same-requires returns returns-2)

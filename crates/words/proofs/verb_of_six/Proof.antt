@@ -1,0 +1,43 @@
+-- `words::verb_of_six` meets its contract.
+use mathlib.Core.Path.{_≡_, refl, sym, ap, _∙_}
+use Rattle.text.specs.Bytes.{bytes, sameBytes}
+use Rattle.words.specs.Words.{verbNames, names}
+use Rattle.words.specs.Rows.{findOf}
+use borrow.Author.Needs.{needs}
+use Rattle.words.proofs.verb_of_six.Statement.{statement}
+use Rattle.words.proofs.verb_of_six.Tie as tie
+use Rattle.words.proofs.verb_of_six.Reads as reads
+use Rattle.words.proofs.verb_of_six.Lts as lts
+use Rattle.text.proofs.same.Reads as same-reads
+use Rattle.words.proofs.only.Reads as only-reads
+
+slice-aggregate-same : tie.Need-slice-aggregate-same
+slice-aggregate-same c = search needs
+
+same-requires : tie.Need-same-requires
+same-requires c κs = search needs
+
+returns : tie.Need-returns
+unfolding findOf verbNames names bytes
+returns c = simp (sym (c .before .same .ensures) ∙ c .if1 .taken)
+
+slice-aggregate-only : tie.Need-slice-aggregate-only
+slice-aggregate-only c = search needs
+
+only-requires : tie.Need-only-requires
+only-requires c κs = search needs
+
+returns-2 : tie.Need-returns-2
+unfolding findOf verbNames names bytes
+returns-2 c = simp (sym (c .before .before .before .same .ensures) ∙ c .before .before .if1 .left) (c .only .ensures)
+
+pub verb-of-six-spec : {M : Type 1} → statement M
+verb-of-six-spec =
+    tie.close
+    (tie.spec
+    slice-aggregate-same
+    same-requires
+    returns
+    slice-aggregate-only
+    only-requires
+    returns-2)
