@@ -1,0 +1,4 @@
+pub mod Answers
+pub mod Trust
+pub mod Lister
+pub mod Words
