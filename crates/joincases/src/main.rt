@@ -1,0 +1,268 @@
+// Runs the joiner at its boundaries and writes, for each call, the bytes used, the outcome, the state and the whole
+// line buffer as runs of equal bytes. Each buffer is filled with dots before the first call.
+ghost use Prim.Native.Nat.{_+_, _<_, _≤_};
+ghost use lib.ListN.{length};
+use joiner::End;
+use joiner::Joined;
+use joiner::Joiner;
+use joiner::Outcome;
+
+fn number(n: usize) {
+    io::print_decimal(1, n as u64);
+    io::write_all(1, b" ");
+}
+
+fn flag(b: bool) {
+    if b {
+        number(1);
+    } else {
+        number(0);
+    }
+}
+
+// How many bytes from `at` on are as the one there.
+fn same(bytes: &[u8], at: usize) -> usize
+    requires { ⌜ at < length (now bytes) ⌝ }
+    ensures { λ r. ⌜ 1 ≤ r ⌝ }
+    ensures { λ r. ⌜ at + r ≤ length (now (bytes .entry)) ⌝ }
+{
+    let x = bytes[at];
+    let mut n = 1;
+    while n < bytes.len() - at {
+        if bytes[at + n] != x {
+            return n;
+        }
+        n += 1;
+    }
+    n
+}
+
+// Writes a run: how many, of which byte.
+fn alike(n: usize, x: u8) {
+    io::write_all(1, b"| ");
+    number(n);
+    number(x as usize);
+}
+
+// Writes bytes as runs.
+fn runs(bytes: &[u8]) {
+    let mut at = 0;
+    while at < bytes.len() {
+        let n = same(bytes, at);
+        alike(n, bytes[at]);
+        at += n;
+    }
+    io::write_all(1, b"\n");
+}
+
+fn outcome(o: Outcome) {
+    match o {
+        Outcome::More => {
+            io::write_all(1, b"more ");
+        }
+        Outcome::Line(n) => {
+            io::write_all(1, b"line ");
+            number(n);
+        }
+        Outcome::Refused {
+            number: k,
+            place: p,
+        } => {
+            io::write_all(1, b"refused ");
+            number(k as usize);
+            number(p);
+        }
+    }
+}
+
+fn state(s: Joiner) {
+    io::write_all(1, b"state ");
+    number(s.held);
+    flag(s.grave);
+    flag(s.cr);
+    flag(s.over);
+}
+
+// Writes what a call gave and left.
+fn show(r: Joined, buffer: &[u8]) {
+    io::write_all(1, b"  used ");
+    number(r.used);
+    let o = r.outcome;
+    outcome(o);
+    let s = r.state;
+    state(s);
+    runs(buffer);
+}
+
+fn call(s: Joiner, buffer: &mut [u8], part: &[u8]) -> Joiner {
+    let r = s.join(buffer, part);
+    show(r, buffer);
+    r.state
+}
+
+// Call after call on what is left of a part, until it is used up.
+fn feed(mut s: Joiner, buffer: &mut [u8], part: &[u8]) -> Joiner {
+    let mut at = 0;
+    while at < part.len() {
+        let r = s.join(buffer, &part[at..]);
+        s = r.state;
+        let used = r.used;
+        show(r, buffer);
+        if used == 0 {
+            return s;
+        }
+        at += used;
+    }
+    s
+}
+
+fn end(s: Joiner) {
+    match s.end() {
+        End::Nothing => {
+            io::write_all(1, b"  end nothing\n");
+        }
+        End::Cut => {
+            io::write_all(1, b"  end cut\n");
+        }
+        End::Refused {
+            number: k,
+            place: p,
+        } => {
+            io::write_all(1, b"  end refused ");
+            number(k as usize);
+            number(p);
+            io::write_all(1, b"\n");
+        }
+    }
+}
+
+// Calls on two parts from the start, and the end of the capture.
+fn capture(one: &[u8], two: &[u8]) {
+    let mut buffer = [46u8; 1024];
+    let mut s = Joiner::new();
+    s = feed(s, &mut buffer, one);
+    s = feed(s, &mut buffer, two);
+    end(s);
+}
+
+// A call from a state, and the end of the capture there.
+fn from(s: Joiner, part: &[u8]) {
+    let mut buffer = [46u8; 1024];
+    let t = call(s, &mut buffer, part);
+    end(t);
+}
+
+fn limit() {
+    io::write_all(1, b"1,024 bytes\n");
+    capture(&[97u8; 1024], b"\n");
+    io::write_all(1, b"1,025 bytes\n");
+    capture(&[97u8; 1025], b"\nb\r");
+    io::write_all(1, b"1,024 bytes and no end of line\n");
+    capture(&[97u8; 1024], b"");
+    io::write_all(1, b"1,025 bytes and no end of line\n");
+    capture(&[97u8; 1025], b"");
+}
+
+fn pairs() {
+    io::write_all(1, b"a pair before the limit\n");
+    capture(&[97u8; 1022], b"`b\n");
+    io::write_all(1, b"a pair across the limit\n");
+    capture(&[97u8; 1023], b"`b\n");
+    io::write_all(1, b"a pair past the limit\n");
+    capture(&[97u8; 1024], b"`b\n");
+    io::write_all(1, b"a GRAVE that waits at the limit, and joins\n");
+    capture(&[97u8; 1024], b"`\n\n");
+    io::write_all(1, b"a GRAVE that waits at the limit, and the end\n");
+    capture(&[97u8; 1024], b"`");
+    io::write_all(1, b"an escaped GRAVE before an end of line\n");
+    capture(b"a``\n", b"b```\nc\n");
+}
+
+fn joins() {
+    io::write_all(1, b"joins in the part thrown away\n");
+    capture(&[97u8; 1025], b"b`\r\nc`\nd``\ne\n");
+    io::write_all(1, b"show in two\n");
+    capture(b"sh`\r\now\n", b"");
+    io::write_all(1, b"show in two, cut after the CR\n");
+    capture(b"sh`\r", b"\now\n");
+    io::write_all(1, b"a join and nothing else held\n");
+    capture(b"`\n", b"");
+    io::write_all(1, b"a quote holds no line open\n");
+    capture(b"\"a\n", b"b\"\n");
+}
+
+fn ends() {
+    io::write_all(1, b"CR LF in one part\n");
+    capture(b"a\r\nb\n", b"");
+    io::write_all(1, b"CR LF cut between two calls\n");
+    capture(b"a\r", b"\nb\n");
+    io::write_all(1, b"the LF of a CR LF as a part of its own\n");
+    capture(b"a\r", b"\n");
+    io::write_all(1, b"CR, LF, CR CR, LF LF\n");
+    capture(b"a\rb\n\r", b"\r\n\n");
+    io::write_all(1, b"a GRAVE at the end\n");
+    capture(b"a\n", b"`");
+}
+
+fn odd(held: usize, grave: bool, cr: bool, over: bool, part: &[u8]) {
+    let s = Joiner {
+        held,
+        grave,
+        cr,
+        over,
+    };
+    from(s, part);
+}
+
+fn states() {
+    io::write_all(
+        1,
+        b"an empty part: from the start, with text held, with a GRAVE, after a CR, too long\n",
+    );
+    odd(0, false, false, false, b"");
+    odd(5, false, false, false, b"");
+    odd(5, true, false, false, b"");
+    odd(5, false, true, false, b"");
+    odd(1024, false, false, true, b"");
+    io::write_all(1, b"an empty part from a state that no capture leads to\n");
+    odd(1025, false, false, false, b"");
+}
+
+fn impossible() {
+    io::write_all(1, b"over 1,024 held\n");
+    odd(1025, false, false, false, b"a\n");
+    odd(1025, false, false, true, b"a\n");
+    io::write_all(1, b"too long with room\n");
+    odd(1023, false, false, true, b"a\n");
+    io::write_all(1, b"a GRAVE waits directly after a CR\n");
+    odd(0, true, true, false, b"\n");
+    odd(1024, true, true, true, b"\n");
+    io::write_all(1, b"the last states that some capture leads to\n");
+    odd(1024, true, false, true, b"\n");
+    odd(1024, false, true, true, b"\n\n");
+}
+
+fn lengths() {
+    let mut short = [46u8; 1023];
+    let mut long = [46u8; 1025];
+    let mut none = [46u8; 1];
+    let mut s = Joiner::new();
+    io::write_all(1, b"a buffer of 1,023 bytes, of 1,025, of 1\n");
+    s = call(s, &mut short, b"a\n");
+    s = call(s, &mut long, b"a\n");
+    s = call(s, &mut none, b"a\n");
+    io::write_all(1, b"and an empty part\n");
+    s = call(s, &mut short, b"");
+    s = call(s, &mut long, b"");
+    end(s);
+}
+
+fn main() {
+    limit();
+    pairs();
+    joins();
+    ends();
+    states();
+    impossible();
+    lengths();
+}
