@@ -1,0 +1,70 @@
+-- What stands before the first that passes a test, as a scan finds it. Assumes nothing.
+use Prim.Native.Nat.{ℕ, suc, zero, _+_, _-_, _<_, _≤_}
+use mathlib.Core.Path.{_≡_, refl, sym, ap, _∙_}
+use mathlib.Core.List.{List, [], _∷_, _++_}
+use mathlib.Core.Bool.{Bool, true, false, cond, not, _&&_, _||_}
+use native.Mathlib.Omega.{arith}
+use lib.ListN.{length, getD, take, drop, drop-of-length-le}
+use Rattle.text.specs.Lists.{anyOf, upTo, isNil}
+use Rattle.text.proofs.Basics.{no-case}
+use Rattle.text.proofs.Scans.{step-of}
+
+module _ {A : Type 0} (f : A → Bool) where
+  -- it is the front of its list
+  pub up-take : (s : List A) → take (length (upTo f s)) s ≡ upTo f s
+  unfolding upTo
+  up-take [] = refl
+  up-take (x ∷ s) = go (f x) (up-take s)
+    where
+      go : (t : Bool) → take (length (upTo f s)) s ≡ upTo f s → take (length (cond t [] (x ∷ upTo f s))) (x ∷ s) ≡ cond t [] (x ∷ upTo f s)
+      go true ih = refl
+      go false ih = ap (λ (z : List A). x ∷ z) ih
+
+  pub up-within : (s : List A) → length (upTo f s) ≤ length s
+  unfolding upTo
+  up-within [] = omega arith
+  up-within (x ∷ s) = go (f x) (up-within s)
+    where
+      go : (t : Bool) → length (upTo f s) ≤ length s → length (cond t [] (x ∷ upTo f s)) ≤ suc (length s)
+      go true ih = omega arith
+      go false ih = omega arith
+
+  -- nothing in it passes the test, and what follows it does
+  pub up-none : (s : List A) → anyOf f (upTo f s) ≡ false
+  unfolding upTo anyOf
+  up-none [] = refl
+  up-none (x ∷ s) = go (f x) refl (up-none s)
+    where
+      go : (t : Bool) → f x ≡ t → anyOf f (upTo f s) ≡ false → anyOf f (cond t [] (x ∷ upTo f s)) ≡ false
+      go true e ih = refl
+      go false e ih = simp (e, ih)
+
+  pub up-next : (s : List A) (d : A) → length (upTo f s) < length s → f (getD s (length (upTo f s)) d) ≡ true
+  unfolding upTo
+  up-next [] d h = absurd (omega arith)
+  up-next (x ∷ s) d h = go (f x) refl h (up-next s d)
+    where
+      go : (t : Bool) → f x ≡ t → length (cond t [] (x ∷ upTo f s)) < suc (length s) → (length (upTo f s) < length s → f (getD s (length (upTo f s)) d) ≡ true)
+          → f (getD (x ∷ s) (length (cond t [] (x ∷ upTo f s))) d) ≡ true
+      go true e k ih = e
+      go false e k ih = ih (omega arith)
+
+-- a scan for it: it goes on, it ends, it is past the list
+module _ {A : Type 0} (f : A → Bool) (l : List A) (i : ℕ) (d : A) where
+  pub up-on : i < length l → f (getD l i d) ≡ false → length (upTo f (drop i l)) ≡ suc (length (upTo f (drop (i + 1) l)))
+  unfolding upTo
+  up-on h e = rw (step-of l i d h, e)
+
+  pub up-ends : i < length l → f (getD l i d) ≡ true → length (upTo f (drop i l)) ≡ 0
+  unfolding upTo
+  up-ends h e = rw (step-of l i d h, e)
+
+module _ {A : Type 0} (f : A → Bool) (l : List A) (i : ℕ) where
+  pub up-past : length l ≤ i → length (upTo f (drop i l)) ≡ 0
+  unfolding upTo
+  up-past h = rw (drop-of-length-le l h)
+
+-- an empty list has its default everywhere
+pub empty-at : (l : List ℕ) → length l ≡ 0 → getD l 0 0 ≡ 0
+empty-at [] h = refl
+empty-at (x ∷ l) h = absurd (omega arith)
