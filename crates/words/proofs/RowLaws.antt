@@ -6,7 +6,8 @@ use mathlib.Core.Bool.{Bool, true, false, cond, not, _&&_}
 use mathlib.Core.Option.{Option, none, some}
 use native.Mathlib.Numerals.{add-one}
 use native.Mathlib.Omega.{arith}
-use lib.ListN.{length, getD, take, drop, List·getD-map, List·getD-eq-default, drop-of-length-le}
+use lib.ListN.{length, getD, take, drop, List·getD-map, List·getD-eq-default, length-drop, drop-of-length-le}
+use lib.Seq.{length-take-le}
 use lib.Dec.{eqb, leb}
 use borrow.Author.Tests.{eq-eqb, ne-eqb, eqb-true, eqb-false, leb-true}
 use Rattle.text.specs.Bytes.{bytes, sameBytes}
@@ -18,8 +19,8 @@ use Rattle.words.specs.declared.Kind.the-variants.{Mere, Keep, Level, Pl
 use Rattle.words.specs.declared.Known.{Known}
 use Rattle.words.specs.declared.Known.the-variants.{Is, Unknown}
 use Rattle.words.specs.Tables.{known}
-use Rattle.words.specs.Words.{verbNames, longNames, shortNames, names, find, or, verbOf, optionOf, kinds, kindOf}
-use Rattle.words.specs.Rows.{verbRows, rowsFor, optionRows, kindAt, rowName, rowShort, rowKind, rowNames, findRow, findOf}
+use Rattle.words.specs.Words.{verbNames, longNames, shortNames, names, find, or, verbOf, optionOf, kinds, kindOf, verbName, optionName, bodies, bodyOf}
+use Rattle.words.specs.Rows.{verbRows, rowsFor, optionRows, kindAt, rowName, rowShort, rowKind, rowNames, findRow, findOf, bodyByte, bodyBytes, bodyAt}
 
 -- a rule that a test finds in a whole list holds at each place
 pub all-at : {A : Type 0} (f : A → Bool) (l : List A) (d : A) → allOf f l ≡ true → (i : ℕ) → i < length l → f (getD l i d) ≡ true
@@ -205,3 +206,91 @@ kind-rest (suc (suc zero)) a b c d = absurd (b refl)
 kind-rest (suc (suc (suc zero))) a b c d = absurd (c refl)
 kind-rest (suc (suc (suc (suc zero)))) a b c d = absurd (d refl)
 kind-rest (suc (suc (suc (suc (suc n))))) a b c d = refl
+
+-- ---- names by number
+
+-- what a table of rows with names says: each row can be read, and the names are those
+nameFits : List ℕ → Bool
+nameFits row = leb (suc (getD row 0 0)) (length row) && leb (length row) 16
+
+module _ (rows ns : List (List ℕ)) (fit : allOf nameFits rows ≡ true) (right : map rowName rows ≡ ns) where
+  table-name : (i : ℕ) → rowName (getD rows i []) ≡ getD ns i []
+  table-name i = sym (List·getD-map rowName rows i []) ∙ ap (λ l. getD l i []) right
+
+  table-fits : (i : ℕ) → i < length rows → (getD (getD rows i []) 0 0 < length (getD rows i [])) × (length (getD rows i []) ≤ 16)
+  unfolding nameFits
+  table-fits i h =
+      let row = getD rows i [] in
+      let t = all-at nameFits rows [] fit i h in (
+        leb-true (suc (getD row 0 0)) (length row) (and-l (leb (suc (getD row 0 0)) (length row)) (leb (length row) 16) t),
+        leb-true (length row) 16 (and-r (leb (suc (getD row 0 0)) (length row)) (leb (length row) 16) t),
+      )
+
+-- a row's first byte is how long its name is
+pub row-length : (row : List ℕ) → getD row 0 0 < length row → getD row 0 0 ≡ length (rowName row)
+row-length row h = sym (length-take-le (getD row 0 0) (drop 1 row) (omega (arith, length-drop 1 row)))
+
+verbs-many : length verbRows ≡ 13
+unfolding verbRows verbNames bytes
+verbs-many = refl
+
+verbs-fit : allOf nameFits verbRows ≡ true
+unfolding allOf nameFits verbRows verbNames bytes
+verbs-fit = refl
+
+pub verbs-right : map rowName verbRows ≡ verbNames
+unfolding verbRows verbNames bytes
+verbs-right = refl
+
+pub verb-fits : (i : ℕ) → i < 13 → (getD (getD verbRows i []) 0 0 < length (getD verbRows i [])) × (length (getD verbRows i []) ≤ 16)
+verb-fits i h = table-fits verbRows verbNames verbs-fit verbs-right i (omega (arith, verbs-many))
+
+pub verb-name : (n : ℕ) → (n ≡ 0 → ⊥) → rowName (getD verbRows (n - 1) []) ≡ verbName n
+unfolding verbName
+verb-name zero h = absurd (h refl)
+verb-name (suc i) h = let e : suc i - 1 ≡ i = omega arith in ap (λ k. rowName (getD verbRows k [])) e ∙ table-name verbRows verbNames verbs-fit verbs-right i
+
+pub verb-none : verbName 0 ≡ []
+unfolding verbName
+verb-none = refl
+
+pub verb-out : (n : ℕ) → 13 < n → verbName n ≡ []
+unfolding verbName verbNames
+verb-out n h = List·getD-eq-default ([] ∷ verbNames) [] h
+
+options-fit : allOf nameFits optionRows ≡ true
+unfolding allOf nameFits optionRows rowsFor longNames shortNames kinds bytes
+options-fit = refl
+
+pub options-right : map rowName optionRows ≡ longNames
+unfolding optionRows rowsFor longNames shortNames kinds bytes
+options-right = refl
+
+pub option-fits : (i : ℕ) → i < 12 → (getD (getD optionRows i []) 0 0 < length (getD optionRows i [])) × (length (getD optionRows i []) ≤ 16)
+option-fits i h = table-fits optionRows longNames options-fit options-right i (omega (arith, rows-many))
+
+pub option-name : (n : ℕ) → (n ≡ 0 → ⊥) → rowName (getD optionRows (n - 1) []) ≡ optionName n
+unfolding optionName
+option-name zero h = absurd (h refl)
+option-name (suc i) h = let e : suc i - 1 ≡ i = omega arith in ap (λ k. rowName (getD optionRows k [])) e ∙ table-name optionRows longNames options-fit options-right i
+
+pub option-none : optionName 0 ≡ []
+unfolding optionName
+option-none = refl
+
+pub option-out : (n : ℕ) → 12 < n → optionName n ≡ []
+unfolding optionName longNames
+option-out n h = List·getD-eq-default ([] ∷ longNames) [] h
+
+-- ---- bodies
+
+pub body-out : (k : ℕ) → 16 < k → bodyOf k ≡ none
+unfolding bodyOf bodies
+body-out k h = List·getD-eq-default bodies none h
+
+pub body-at : (k : ℕ) → k ≤ 16 → bodyAt (getD bodyBytes k 0) ≡ bodyOf k
+unfolding bodyOf bodyBytes bodies
+body-at k h = ap bodyAt (getD-within bodyBytes k 0 255 (omega arith)) ∙ sym (List·getD-map bodyAt bodyBytes k 255)
+
+pub body-is : (b : ℕ) → (b ≡ 255 → ⊥) → some b ≡ bodyAt b
+body-is b h = rw (ne-eqb b 255 h)

@@ -7,7 +7,7 @@ use lib.ListN.{length, getD, take, drop, replicate}
 use lib.Dec.{eqb}
 use Rattle.words.specs.declared.Kind.{Kind}
 use Rattle.words.specs.declared.Kind.the-variants.{Mere, Keep, Level, Place, Entries}
-use Rattle.words.specs.Words.{verbNames, longNames, shortNames, kinds, names, find}
+use Rattle.words.specs.Words.{verbNames, longNames, shortNames, kinds, names, find, bodies}
 
 -- a name in n bytes, with zeros after it
 abbrev pub padded : ℕ → List ℕ → List ℕ
@@ -65,3 +65,14 @@ findRow k (row ∷ rows) t = let more = findRow (suc k) rows t in cond (rowNames
 unfoldable pub findOf : ℕ → ℕ → List (List ℕ) → List ℕ → Option ℕ
 findOf n k [] s = none
 findOf n k (name ∷ ns) s = let more = findOf n (suc k) ns s in cond (eqb (length name) n) (cond (names name s) (some k) more) more
+
+-- body lengths as bytes, 255 for a kind that no record has, both ways
+abbrev pub bodyByte : Option ℕ → ℕ
+bodyByte none = 255
+bodyByte (some n) = n
+
+unfoldable pub bodyBytes : List ℕ
+bodyBytes = map bodyByte bodies
+
+abbrev pub bodyAt : ℕ → Option ℕ
+bodyAt b = cond (eqb b 255) none (some b)

@@ -4,10 +4,11 @@ ghost use Prim.Native.Nat.{_≤_, _<_};
 ghost use mathlib.Core.Bool.{cond};
 ghost use mathlib.Core.Option.{none, some};
 ghost use lib.ListN.{length, getD};
+ghost use lib.Seq.{sets};
 ghost use Rattle.text.specs.Bytes.{sameBytes};
-ghost use Rattle.words.specs.Words.{names, verbNames, verbOf, optionOf, kindOf, allName, sessionName};
+ghost use Rattle.words.specs.Words.{names, verbNames, verbOf, verbName, optionOf, optionName, kindOf, allName, sessionName, bodyOf};
 ghost use Rattle.words.specs.Tables.{known};
-ghost use Rattle.words.specs.Rows.{findOf, rowNames, kindAt};
+ghost use Rattle.words.specs.Rows.{findOf, rowName, rowNames, kindAt};
 
 // The form of an option's argument; Mere: it takes none.
 pub enum Kind {
@@ -24,208 +25,62 @@ pub enum Known {
     Unknown,
 }
 
+// A row: how many bytes the name has, the name in 7.
+const VERBS: [[u8; 8]; 13] = [
+    *b"\x02cd\0\0\0\0\0",
+    *b"\x06create\0",
+    *b"\x06delete\0",
+    *b"\x04dump\0\0\0",
+    *b"\x04exit\0\0\0",
+    *b"\x04help\0\0\0",
+    *b"\x04load\0\0\0",
+    *b"\x05reset\0\0",
+    *b"\x03set\0\0\0\0",
+    *b"\x04show\0\0\0",
+    *b"\x05start\0\0",
+    *b"\x04stop\0\0\0",
+    *b"\x07version",
+];
+
 // A row: how many bytes the long name has, the name in 11, the short name or 0, the kind of argument (1 keep, 2 level,
-// 3 a place, 4 entries), zeros.
+// 3 a place, 4 entries), two zeros.
 const OPTIONS: [[u8; 16]; 12] = [
-    [3, b'a', b'l', b'l', 0, 0, 0, 0, 0, 0, 0, 0, b'a', 0, 0, 0],
-    [
-        11,
-        b'd',
-        b'e',
-        b's',
-        b't',
-        b'i',
-        b'n',
-        b'a',
-        b't',
-        b'i',
-        b'o',
-        b'n',
-        0,
-        3,
-        0,
-        0,
-    ],
-    [
-        7,
-        b'd',
-        b'i',
-        b's',
-        b'p',
-        b'l',
-        b'a',
-        b'y',
-        0,
-        0,
-        0,
-        0,
-        b'd',
-        4,
-        0,
-        0,
-    ],
-    [
-        7,
-        b'e',
-        b'x',
-        b'a',
-        b'm',
-        b'i',
-        b'n',
-        b'e',
-        0,
-        0,
-        0,
-        0,
-        b'x',
-        0,
-        0,
-        0,
-    ],
-    [
-        5,
-        b'f',
-        b'o',
-        b'r',
-        b'c',
-        b'e',
-        0,
-        0,
-        0,
-        0,
-        0,
-        0,
-        b'f',
-        0,
-        0,
-        0,
-    ],
-    [
-        4,
-        b'h',
-        b'e',
-        b'l',
-        b'p',
-        0,
-        0,
-        0,
-        0,
-        0,
-        0,
-        0,
-        b'h',
-        0,
-        0,
-        0,
-    ],
-    [
-        4,
-        b'k',
-        b'e',
-        b'e',
-        b'p',
-        0,
-        0,
-        0,
-        0,
-        0,
-        0,
-        0,
-        b'k',
-        1,
-        0,
-        0,
-    ],
-    [
-        5,
-        b'l',
-        b'e',
-        b'v',
-        b'e',
-        b'l',
-        0,
-        0,
-        0,
-        0,
-        0,
-        0,
-        b'l',
-        2,
-        0,
-        0,
-    ],
-    [
-        6,
-        b'o',
-        b'u',
-        b't',
-        b'p',
-        b'u',
-        b't',
-        0,
-        0,
-        0,
-        0,
-        0,
-        b'o',
-        4,
-        0,
-        0,
-    ],
-    [
-        6,
-        b's',
-        b'o',
-        b'u',
-        b'r',
-        b'c',
-        b'e',
-        0,
-        0,
-        0,
-        0,
-        0,
-        0,
-        3,
-        0,
-        0,
-    ],
-    [
-        7,
-        b'v',
-        b'e',
-        b'r',
-        b's',
-        b'i',
-        b'o',
-        b'n',
-        0,
-        0,
-        0,
-        0,
-        b'v',
-        0,
-        0,
-        0,
-    ],
-    [
-        4,
-        b'w',
-        b'a',
-        b'i',
-        b't',
-        0,
-        0,
-        0,
-        0,
-        0,
-        0,
-        0,
-        b'w',
-        0,
-        0,
-        0,
-    ],
+    *b"\x03all\0\0\0\0\0\0\0\0a\0\0\0",
+    *b"\x0bdestination\0\x03\0\0",
+    *b"\x07display\0\0\0\0d\x04\0\0",
+    *b"\x07examine\0\0\0\0x\0\0\0",
+    *b"\x05force\0\0\0\0\0\0f\0\0\0",
+    *b"\x04help\0\0\0\0\0\0\0h\0\0\0",
+    *b"\x04keep\0\0\0\0\0\0\0k\x01\0\0",
+    *b"\x05level\0\0\0\0\0\0l\x02\0\0",
+    *b"\x06output\0\0\0\0\0o\x04\0\0",
+    *b"\x06source\0\0\0\0\0\0\x03\0\0",
+    *b"\x07version\0\0\0\0v\0\0\0",
+    *b"\x04wait\0\0\0\0\0\0\0w\0\0\0",
+];
+
+// What stands in BODIES for a kind that no record has.
+const NO_BODY: u8 = 255;
+
+// How long the body of a record is, by its kind.
+const BODIES: [u8; 17] = [
+    NO_BODY,
+    1, // verb
+    5, // option
+    4, // target
+    9, // property
+    3, // refusal
+    0, // blank
+    0, // cut
+    NO_BODY,
+    NO_BODY,
+    NO_BODY,
+    NO_BODY,
+    NO_BODY,
+    NO_BODY,
+    NO_BODY,
+    NO_BODY,
+    21, // node
 ];
 
 // The number of the verb with these bytes.
@@ -357,4 +212,84 @@ fn kind_at(n: u8) -> Kind
         4 => Kind::Entries,
         _ => Kind::Mere,
     }
+}
+
+// How many bytes the name of a verb has, by the verb's number.
+pub fn verb_name_len(n: u8) -> usize
+    ensures { λ r. ⌜ r ≡ length (verbName n) ⌝ }
+{
+    if n == 0 {
+        return 0;
+    }
+    if 13 < n {
+        return 0;
+    }
+    let i = (n - 1) as usize;
+    VERBS[i][0] as usize
+}
+
+// The name of a verb at a place of the room; tells how many bytes it has.
+pub fn put_verb_name(out: &mut [u8], at: usize, n: u8) -> usize
+    ensures { λ r. ⌜ (r ≡ length (verbName n)) × (now (out .exit) ≡ sets (now (out .entry)) at (verbName n)) ⌝ }
+{
+    if n == 0 {
+        return 0;
+    }
+    if 13 < n {
+        return 0;
+    }
+    let i = (n - 1) as usize;
+    put_row(out, at, &VERBS[i])
+}
+
+// How many bytes the long name of an option has, by the option's number.
+pub fn option_name_len(n: u8) -> usize
+    ensures { λ r. ⌜ r ≡ length (optionName n) ⌝ }
+{
+    if n == 0 {
+        return 0;
+    }
+    if 12 < n {
+        return 0;
+    }
+    let i = (n - 1) as usize;
+    OPTIONS[i][0] as usize
+}
+
+// The long name of an option at a place of the room; tells how many bytes it has.
+pub fn put_option_name(out: &mut [u8], at: usize, n: u8) -> usize
+    ensures { λ r. ⌜ (r ≡ length (optionName n)) × (now (out .exit) ≡ sets (now (out .entry)) at (optionName n)) ⌝ }
+{
+    if n == 0 {
+        return 0;
+    }
+    if 12 < n {
+        return 0;
+    }
+    let i = (n - 1) as usize;
+    put_row(out, at, &OPTIONS[i])
+}
+
+// A row's name at a place of the room.
+fn put_row(out: &mut [u8], at: usize, row: &[u8]) -> usize
+    requires { ⌜ getD (now row) 0 0 < length (now row) ⌝ }
+    ensures { λ r. ⌜ (r ≡ length (rowName (now (row .entry)))) × (now (out .exit) ≡ sets (now (out .entry)) at (rowName (now (row .entry)))) ⌝ }
+{
+    let n = row[0] as usize;
+    text::copy(out, at, &row[1..n + 1]);
+    n
+}
+
+// How long the body of a record is, by its kind.
+pub fn body_len(kind: u8) -> Known
+    ensures { λ r. ⌜ r ≡ known (bodyOf kind) ⌝ }
+{
+    if 16 < kind {
+        return Known::Unknown;
+    }
+    let n = BODIES[kind as usize];
+    if n == NO_BODY {
+        return Known::Unknown;
+    }
+    Known::Is(n)
 }
