@@ -57,7 +57,7 @@ gives-solid InGrave b e = go (oneOf two b) refl
     go false p = simp p
 
 -- a GRAVE whose sign is not told yet
-abbrev pend : Mode → ℕ
+abbrev pub pend : Mode → ℕ
 pend Out = 0
 pend OutGrave = 1
 pend In = 0

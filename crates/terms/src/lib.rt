@@ -1,7 +1,19 @@
 // Terms and escapes.
+use text::Answer;
+use text::Verdict;
 ghost use mathlib.Core.Path.{_≡_};
+ghost use mathlib.Core.Bool.{cond};
+ghost use mathlib.Core.List.{[], _∷_};
+ghost use Prim.Native.Nat.{_+_, _<_};
+ghost use lib.ListN.{length, drop, set};
+ghost use lib.Seq.{sets};
 ghost use Rattle.text.specs.Bytes.{oneOf};
-ghost use Rattle.terms.specs.Signs.{twelve, two, after};
+ghost use Rattle.text.specs.Lists.{anyOf};
+ghost use Rattle.text.specs.Room.{fitted, filled};
+ghost use Rattle.terms.specs.Signs.{twelve, two, after, gives, atEnd, stands, meant, isBare, hasBare};
+ghost use Rattle.terms.specs.Marks.{isMark, hasMark, startsBare};
+ghost use Rattle.terms.specs.Rows.{opens, openFlaw, manyFlaw, lexicalOf};
+ghost use Rattle.terms.specs.Scan.{gapByte, termLen, startAt, termAt};
 
 // Where a scan stands: outside quotes or inside, and there directly after a GRAVE that nothing has escaped.
 pub enum Mode {
@@ -80,4 +92,420 @@ pub fn step(m: Mode, b: u8) -> Mode
         Mode::In => step_in(b),
         Mode::InGrave => Mode::In,
     }
+}
+
+// Whether a byte parts terms.
+fn is_gap(m: Mode, b: u8) -> bool
+    ensures { λ r. ⌜ r ≡ gapByte m b ⌝ }
+{
+    match m {
+        Mode::Out => b == b' ',
+        Mode::OutGrave => false,
+        Mode::In => false,
+        Mode::InGrave => false,
+    }
+}
+
+// Where the spaces that begin at a place end.
+fn gap_end(line: &[u8], at: usize) -> usize
+    ensures { λ r. ⌜ r ≡ startAt (now (line .entry)) at ⌝ }
+{
+    let mut i = at;
+    while i < line.len() {
+        if line[i] != b' ' {
+            return i;
+        }
+        i += 1;
+    }
+    i
+}
+
+// Where the term that begins at a place ends.
+fn term_end(line: &[u8], at: usize) -> usize
+    ensures { λ r. ⌜ r ≡ at + termLen Mode.Out (drop at (now (line .entry))) ⌝ }
+{
+    let mut i = at;
+    let mut m = Mode::Out;
+    while i < line.len() {
+        let b = line[i];
+        if is_gap(m, b) {
+            return i;
+        }
+        m = step(m, b);
+        i += 1;
+    }
+    i
+}
+
+// The term at or after a place, scanned as at a line's start.
+pub fn term_at(line: &[u8], at: usize) -> Found
+    ensures { λ r. ⌜ r ≡ termAt (now (line .entry)) at ⌝ }
+{
+    let start = gap_end(line, at);
+    let end = term_end(line, start);
+    let len = end - start;
+    if len == 0 {
+        Found::None
+    } else {
+        Found::Term { start, len }
+    }
+}
+
+// The place of the quote that was opened last: i if this byte opens one.
+fn opened(m: Mode, b: u8, i: usize, q: usize) -> usize
+    ensures { λ r. ⌜ r ≡ opens m b i q ⌝ }
+{
+    match m {
+        Mode::Out => {
+            if b == b'"' {
+                return i;
+            }
+            q
+        }
+        Mode::OutGrave => q,
+        Mode::In => q,
+        Mode::InGrave => q,
+    }
+}
+
+// Rows 3 and 4: whether the line ends in a GRAVE that escapes nothing, or in a quote.
+fn open_flaw(line: &[u8]) -> Verdict
+    ensures { λ r. ⌜ r ≡ openFlaw (now (line .entry)) ⌝ }
+{
+    let mut i: usize = 0;
+    let mut m = Mode::Out;
+    let mut q: usize = 0;
+    while i < line.len() {
+        let b = line[i];
+        q = opened(m, b, i, q);
+        m = step(m, b);
+        i += 1;
+    }
+    match m {
+        Mode::Out => Verdict::Fine,
+        Mode::OutGrave => Verdict::Flawed {
+            number: 3,
+            place: i - 1,
+        },
+        Mode::In => Verdict::Flawed {
+            number: 4,
+            place: q,
+        },
+        Mode::InGrave => Verdict::Flawed {
+            number: 3,
+            place: i - 1,
+        },
+    }
+}
+
+// Row 5: whether there are over 64 terms.
+fn many_flaw(line: &[u8]) -> Verdict
+    ensures { λ r. ⌜ r ≡ manyFlaw (now (line .entry)) ⌝ }
+{
+    let mut at: usize = 0;
+    let mut k: usize = 0;
+    loop {
+        let Found::Term { start, len } = term_at(line, at) else {
+            return Verdict::Fine;
+        };
+        if k == 64 {
+            return Verdict::Flawed {
+                number: 5,
+                place: start,
+            };
+        }
+        k += 1;
+        at = start + len;
+    }
+}
+
+// Rows 1 to 5, in their order.
+pub fn lexical(line: &[u8]) -> Verdict
+    ensures { λ r. ⌜ r ≡ lexicalOf (now (line .entry)) ⌝ }
+{
+    if 1024 < line.len() {
+        return Verdict::Flawed {
+            number: 1,
+            place: 1024,
+        };
+    }
+    let clean = text::printable_len(line);
+    if clean < line.len() {
+        return Verdict::Flawed {
+            number: 2,
+            place: clean,
+        };
+    }
+    let ended = open_flaw(line);
+    if let Verdict::Fine = ended {
+        many_flaw(line)
+    } else {
+        ended
+    }
+}
+
+// Whether a byte gives the bare byte n: outside quotes, after a GRAVE there, in any mode, and at the text's end.
+fn out_bare(b: u8, n: u8) -> bool
+    ensures { λ r. ⌜ r ≡ anyOf (isBare n) (gives Mode.Out b) ⌝ }
+{
+    match b {
+        b'`' => false,
+        b'"' => false,
+        _ => b == n,
+    }
+}
+
+fn grave_bare(b: u8, n: u8) -> bool
+    ensures { λ r. ⌜ r ≡ anyOf (isBare n) (gives Mode.OutGrave b) ⌝ }
+{
+    if is_twelve(b) {
+        return false;
+    }
+    if b'`' == n {
+        return true;
+    }
+    b == n
+}
+
+fn gives_bare(m: Mode, b: u8, n: u8) -> bool
+    ensures { λ r. ⌜ r ≡ anyOf (isBare n) (gives m b) ⌝ }
+{
+    match m {
+        Mode::Out => out_bare(b, n),
+        Mode::OutGrave => grave_bare(b, n),
+        Mode::In => false,
+        Mode::InGrave => false,
+    }
+}
+
+fn ends_bare(m: Mode, n: u8) -> bool
+    ensures { λ r. ⌜ r ≡ anyOf (isBare n) (atEnd m) ⌝ }
+{
+    match m {
+        Mode::Out => false,
+        Mode::OutGrave => b'`' == n,
+        Mode::In => false,
+        Mode::InGrave => false,
+    }
+}
+
+// Whether a text has this bare byte.
+pub fn has_bare(s: &[u8], b: u8) -> bool
+    ensures { λ r. ⌜ r ≡ hasBare b (now (s .entry)) ⌝ }
+{
+    let mut i: usize = 0;
+    let mut m = Mode::Out;
+    while i < s.len() {
+        let c = s[i];
+        if gives_bare(m, c, b) {
+            return true;
+        }
+        m = step(m, c);
+        i += 1;
+    }
+    ends_bare(m, b)
+}
+
+// Whether a byte is a quote mark.
+fn gives_mark(m: Mode, b: u8) -> bool
+    ensures { λ r. ⌜ r ≡ anyOf isMark (gives m b) ⌝ }
+{
+    match m {
+        Mode::Out => b == b'"',
+        Mode::OutGrave => false,
+        Mode::In => b == b'"',
+        Mode::InGrave => false,
+    }
+}
+
+// Whether a text has a quote mark, which is an unescaped `"`.
+pub fn has_quote(s: &[u8]) -> bool
+    ensures { λ r. ⌜ r ≡ hasMark (now (s .entry)) ⌝ }
+{
+    let mut i: usize = 0;
+    let mut m = Mode::Out;
+    while i < s.len() {
+        let c = s[i];
+        if gives_mark(m, c) {
+            return true;
+        }
+        m = step(m, c);
+        i += 1;
+    }
+    false
+}
+
+// Whether a text's first sign is this bare byte.
+pub fn starts_bare(s: &[u8], b: u8) -> bool
+    ensures { λ r. ⌜ r ≡ startsBare b (now (s .entry)) ⌝ }
+{
+    if s.len() == 0 {
+        return false;
+    }
+    if s[0] != b'`' {
+        return out_bare(s[0], b);
+    }
+    if s.len() == 1 {
+        return b'`' == b;
+    }
+    if is_twelve(s[1]) {
+        return false;
+    }
+    b'`' == b
+}
+
+// How many bytes a byte stands for: where no GRAVE takes it, after a GRAVE that escapes it or not, in any mode, and at the text's end.
+fn one_meant(b: u8) -> usize
+    ensures { λ r. ⌜ r ≡ length (stands (gives Mode.Out b)) ⌝ }
+{
+    match b {
+        b'`' => 0,
+        b'"' => 0,
+        _ => 1,
+    }
+}
+
+fn pair_meant(escapes: bool) -> usize
+    ensures { λ r. ⌜ r ≡ cond escapes 1 2 ⌝ }
+{
+    if escapes {
+        return 1;
+    }
+    2
+}
+
+fn byte_meant(m: Mode, b: u8) -> usize
+    ensures { λ r. ⌜ r ≡ length (stands (gives m b)) ⌝ }
+{
+    match m {
+        Mode::Out => one_meant(b),
+        Mode::OutGrave => pair_meant(is_twelve(b)),
+        Mode::In => one_meant(b),
+        Mode::InGrave => pair_meant(is_two(b)),
+    }
+}
+
+fn end_meant(m: Mode) -> usize
+    ensures { λ r. ⌜ r ≡ length (stands (atEnd m)) ⌝ }
+{
+    match m {
+        Mode::Out => 0,
+        Mode::OutGrave => 1,
+        Mode::In => 0,
+        Mode::InGrave => 1,
+    }
+}
+
+// How many bytes a text stands for.
+pub fn meant_len(s: &[u8]) -> usize
+    ensures { λ r. ⌜ r ≡ length (meant (now (s .entry))) ⌝ }
+{
+    let mut i: usize = 0;
+    let mut m = Mode::Out;
+    let mut n: usize = 0;
+    while i < s.len() {
+        let b = s[i];
+        n += byte_meant(m, b);
+        m = step(m, b);
+        i += 1;
+    }
+    n + end_meant(m)
+}
+
+// One byte, w places after a place of the room; past its end nothing is written.
+fn put_after(out: &mut [u8], at: usize, w: usize, b: u8)
+    ensures { λ r. ⌜ now (out .exit) ≡ set (now (out .entry)) (at + w) b ⌝ }
+{
+    if at < out.len() {
+        if w < out.len() - at {
+            out[at + w] = b;
+        }
+    }
+}
+
+// The bytes that a byte stands for, written as above; each tells how many they are.
+fn put_one(out: &mut [u8], at: usize, w: usize, b: u8) -> usize
+    ensures { λ r. ⌜ (r ≡ length (stands (gives Mode.Out b))) × (now (out .exit) ≡ sets (now (out .entry)) (at + w) (stands (gives Mode.Out b))) ⌝ }
+{
+    match b {
+        b'`' => 0,
+        b'"' => 0,
+        _ => {
+            put_after(out, at, w, b);
+            1
+        }
+    }
+}
+
+fn put_pair(out: &mut [u8], at: usize, w: usize, b: u8, escapes: bool) -> usize
+    requires { ⌜ w < 18446744073709551615 ⌝ }
+    ensures { λ r. ⌜ (r ≡ length (cond escapes (b ∷ []) (96 ∷ b ∷ []))) × (now (out .exit) ≡ sets (now (out .entry)) (at + w) (cond escapes (b ∷ []) (96 ∷ b ∷ []))) ⌝ }
+{
+    if escapes {
+        put_after(out, at, w, b);
+        return 1;
+    }
+    put_after(out, at, w, b'`');
+    put_after(out, at, w + 1, b);
+    2
+}
+
+fn put_byte(out: &mut [u8], at: usize, w: usize, m: Mode, b: u8) -> usize
+    requires { ⌜ w < 18446744073709551615 ⌝ }
+    ensures { λ r. ⌜ (r ≡ length (stands (gives m b))) × (now (out .exit) ≡ sets (now (out .entry)) (at + w) (stands (gives m b))) ⌝ }
+{
+    match m {
+        Mode::Out => put_one(out, at, w, b),
+        Mode::OutGrave => put_pair(out, at, w, b, is_twelve(b)),
+        Mode::In => put_one(out, at, w, b),
+        Mode::InGrave => put_pair(out, at, w, b, is_two(b)),
+    }
+}
+
+fn put_grave(out: &mut [u8], at: usize, w: usize) -> usize
+    ensures { λ r. ⌜ (r ≡ 1) × (now (out .exit) ≡ set (now (out .entry)) (at + w) 96) ⌝ }
+{
+    put_after(out, at, w, b'`');
+    1
+}
+
+fn put_end(out: &mut [u8], at: usize, w: usize, m: Mode) -> usize
+    ensures { λ r. ⌜ (r ≡ length (stands (atEnd m))) × (now (out .exit) ≡ sets (now (out .entry)) (at + w) (stands (atEnd m))) ⌝ }
+{
+    match m {
+        Mode::Out => 0,
+        Mode::OutGrave => put_grave(out, at, w),
+        Mode::In => 0,
+        Mode::InGrave => put_grave(out, at, w),
+    }
+}
+
+// The bytes that a text stands for, at a place of the room; what would stand past its end is not written. Tells how many they are.
+pub fn put_meant(out: &mut [u8], at: usize, s: &[u8]) -> usize
+    ensures { λ r. ⌜ (r ≡ length (meant (now (s .entry)))) × (now (out .exit) ≡ sets (now (out .entry)) at (meant (now (s .entry)))) ⌝ }
+{
+    let mut i: usize = 0;
+    let mut m = Mode::Out;
+    let mut w: usize = 0;
+    while i < s.len() {
+        let b = s[i];
+        w += put_byte(out, at, w, m, b);
+        m = step(m, b);
+        i += 1;
+    }
+    w + put_end(out, at, w, m)
+}
+
+// The bytes that a text stands for, at the room's start, or 19 where they don't fit.
+pub fn write_meant(s: &[u8], out: &mut [u8]) -> Answer
+    ensures { λ r. ⌜ (r ≡ fitted (length (now (out .entry))) (meant (now (s .entry)))) × (now (out .exit) ≡ filled (now (out .entry)) (meant (now (s .entry)))) ⌝ }
+{
+    if out.len() < meant_len(s) {
+        return Answer::Refused {
+            number: 19,
+            place: 0,
+        };
+    }
+    let n = put_meant(out, 0, s);
+    Answer::Wrote(n)
 }

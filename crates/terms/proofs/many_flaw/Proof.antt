@@ -1,0 +1,89 @@
+-- `terms::many_flaw` meets its contract. The loop's invariant: the answer for the terms from here on, with k before them, is the answer.
+use borrow.Author.Needs.{needs}
+use Prim.Native.Nat.{ℕ, _+_, _-_, _≤_}
+use borrow.Author.Tests.{eq-eqb, ne-eqb}
+use mathlib.Core.Path.{_≡_, refl, sym, ap, _∙_}
+use mathlib.Core.Bool.{true}
+use native.Mathlib.Omega.{arith}
+use lib.ListN.{length, drop}
+use Rattle.terms.specs.declared.Mode.the-variants.{Out}
+use Rattle.terms.specs.declared.Found.the-variants.{Term}
+use Rattle.terms.specs.Signs.{signs}
+use Rattle.terms.specs.Terms.{termsFrom, termsOf}
+use Rattle.terms.specs.Rows.{manyFrom, manyFlaw}
+use Rattle.terms.specs.Scan.{termAt}
+use Rattle.terms.proofs.TermLaws.{terms-some, terms-none, term-within}
+use Rattle.terms.proofs.many_flaw.Statement.{statement}
+use Rattle.terms.proofs.many_flaw.Tie as tie
+use Rattle.terms.proofs.many_flaw.Reads as reads
+use Rattle.terms.proofs.many_flaw.Lts as lts
+use Rattle.terms.proofs.term_at.Reads as term-at-reads
+
+abbrev Inv-loop : tie.InvT-loop
+Inv-loop line at₀ k₀ at k =
+    (manyFrom k (termsFrom at true (signs Out (drop at line))) ≡ manyFlaw line)
+    × (at ≤ length line)
+    × (k ≤ 64)
+
+abbrev μ-loop : tie.MeasureT-loop
+μ-loop line at₀ k₀ at k = length line - at
+
+-- where a term was found: what that says
+got : (c : tie.After-start Inv-loop μ-loop) → Term (c .start .given .0 .0) (c .start .given .0 .1 .0) ≡ termAt (c .before .before .before .before .before .args .line .now) (c .before .before .before .loop .at)
+got c = sym (c .start .given .1) ∙ c .before .before .term-at .ensures
+
+loop-holds : tie.Need-loop-holds Inv-loop μ-loop
+unfolding manyFlaw termsOf
+loop-holds c = (refl, omega arith, omega arith)
+
+term-at-requires : tie.Need-term-at-requires Inv-loop μ-loop
+term-at-requires c κs = search needs
+
+enum-known-start : tie.Need-enum-known-start Inv-loop μ-loop
+enum-known-start c = search needs
+
+enum-told : tie.Need-enum-told Inv-loop μ-loop
+enum-told c = search needs
+
+returns : tie.Need-returns Inv-loop μ-loop
+unfolding manyFrom
+returns c = sym (ap (manyFrom (c .before .before .before .loop .k)) (terms-none (c .before .before .before .before .before .args .line .now) (c .before .before .before .loop .at) (sym (c .enum-told .given .1) ∙ c .before .before .term-at .ensures))) ∙ c .before .before .before .loop .inv .0
+
+returns-2 : tie.Need-returns-2 Inv-loop μ-loop
+unfolding manyFrom
+returns-2 c = sym (ap (manyFrom (c .before .before .before .before .before .loop .k)) (terms-some (c .before .before .before .before .before .before .before .args .line .now) (c .before .before .before .before .before .loop .at) _ _ (got (c .before .before))) ∙ rw (eq-eqb _ _ (c .if1 .taken))) ∙ c .before .before .before .before .before .loop .inv .0
+
+add-k : tie.Need-add-k Inv-loop μ-loop
+add-k c = search needs
+
+add-at : tie.Need-add-at Inv-loop μ-loop
+add-at c = let w = term-within (c .before .before .before .before .before .before .before .args .line .now) (c .before .before .before .before .before .loop .at) _ _ (got (c .before .before)) in let h = w .fits in omega arith
+
+loop-less : tie.Need-loop-less Inv-loop μ-loop
+loop-less c = let w = term-within (c .before .before .before .before .before .before .before .args .line .now) (c .before .before .before .before .before .loop .at) _ _ (got (c .before .before)) in let h = w .fits in let p = w .from in let q = w .some in omega arith
+
+loop-again : tie.Need-loop-again Inv-loop μ-loop
+unfolding manyFrom
+loop-again c =
+    let w = term-within (c .before .before .before .before .before .before .before .args .line .now) (c .before .before .before .before .before .loop .at) _ _ (got (c .before .before)) in (
+      sym (ap (manyFrom (c .before .before .before .before .before .loop .k)) (terms-some (c .before .before .before .before .before .before .before .args .line .now) (c .before .before .before .before .before .loop .at) _ _ (got (c .before .before))) ∙ rw (ne-eqb _ _ (c .if1 .left))) ∙ c .before .before .before .before .before .loop .inv .0,
+      w .fits,
+      omega arith,
+    )
+
+pub many-flaw-spec : {M : Type 1} → statement M
+many-flaw-spec =
+    tie.close
+    (tie.spec
+    Inv-loop
+    μ-loop
+    loop-holds
+    term-at-requires
+    enum-known-start
+    enum-told
+    returns
+    returns-2
+    add-k
+    add-at
+    loop-less
+    loop-again)
