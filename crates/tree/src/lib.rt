@@ -1,9 +1,13 @@
 // The lent tree: its check, the full path of a node, and the instances that a target addresses.
 ghost use mathlib.Core.Path.{_≡_};
-ghost use Prim.Native.Nat.{_≤_};
+ghost use Prim.Native.Nat.{_+_, _*_, _≤_, _<_};
+ghost use mathlib.Core.List.{_∷_};
 ghost use lib.ListN.{length};
+ghost use lib.Seq.{sets};
 ghost use Rattle.text.specs.Lists.{allOf};
-ghost use Rattle.tree.specs.Tree.{isZero, tagLenIn, sameNode, twin, badRecord, checkTree};
+ghost use Rattle.text.specs.Decimal.{width};
+ghost use Rattle.tree.specs.Tree.{isZero, tagLenIn, sameNode, twin, badRecord, checkTree, records, recordAt, parent, number};
+ghost use Rattle.tree.specs.Path.{segment, pathUp, pathAnswer, pathRoom};
 
 // Whether a tree is good, or where its first bad record starts.
 pub enum Checked {
@@ -119,4 +123,150 @@ pub fn check(t: &[u8]) -> Checked
         k += 1;
     }
     Checked::Good
+}
+
+// ---- the full path of a node
+
+// A number's two bytes, high first.
+fn be16(high: u8, low: u8) -> u16
+    ensures { λ r. ⌜ r ≡ 256 * high + low ⌝ }
+{
+    256 * (high as u16) + (low as u16)
+}
+
+// How many digits a number of two bytes has.
+fn width(n: u16) -> usize
+    ensures { λ r. ⌜ (r ≡ width n) × (r ≤ 5) ⌝ }
+{
+    if n < 10 {
+        return 1;
+    }
+    if n < 100 {
+        return 2;
+    }
+    if n < 1000 {
+        return 3;
+    }
+    if n < 10000 {
+        return 4;
+    }
+    5
+}
+
+// The parent of a node: a lower one.
+fn parent(t: &[u8], k: usize) -> usize
+    requires { ⌜ (checkTree (now t) ≡ Checked.Good) × (1 ≤ k) × (k ≤ records (now t)) ⌝ }
+    ensures { λ r. ⌜ (r ≡ parent (now (t .entry)) k) × (r < k) ⌝ }
+{
+    let p = 22 * (k - 1);
+    text::pair(t[p + 1], t[p + 2])
+}
+
+// How many letters the tag of a node has.
+fn tag_len(t: &[u8], k: usize) -> usize
+    requires { ⌜ (checkTree (now t) ≡ Checked.Good) × (1 ≤ k) × (k ≤ records (now t)) ⌝ }
+    ensures { λ r. ⌜ (r ≡ tagLenIn (recordAt (now (t .entry)) k)) × (r ≤ 16) × (22 * k ≤ length (now (t .entry))) ⌝ }
+{
+    let p = 22 * (k - 1);
+    text::pair(0, t[p + 3])
+}
+
+// The number of a node.
+fn number(t: &[u8], k: usize) -> u16
+    requires { ⌜ (checkTree (now t) ≡ Checked.Good) × (1 ≤ k) × (k ≤ records (now t)) ⌝ }
+    ensures { λ r. ⌜ r ≡ number (now (t .entry)) k ⌝ }
+{
+    let p = 22 * (k - 1);
+    be16(t[p + 20], t[p + 21])
+}
+
+// How long a separator and a node's segment are.
+fn segment_len(t: &[u8], k: usize) -> usize
+    requires { ⌜ (checkTree (now t) ≡ Checked.Good) × (1 ≤ k) × (k ≤ records (now t)) ⌝ }
+    ensures { λ r. ⌜ (r ≡ 1 + length (segment (now (t .entry)) k)) × (r ≤ 22) ⌝ }
+{
+    let n = tag_len(t, k);
+    1 + n + width(number(t, k))
+}
+
+// A separator and a node's segment at a place of the room; tells the place after them.
+fn put_segment(t: &[u8], k: usize, out: &mut [u8], at: usize) -> usize
+    requires { ⌜ (checkTree (now t) ≡ Checked.Good) × (1 ≤ k) × (k ≤ records (now t)) × (at ≤ 22 * k) ⌝ }
+    ensures { λ r. ⌜ (r ≡ at + (1 + length (segment (now (t .entry)) k))) × (now (out .exit) ≡ sets (now (out .entry)) at (_∷_ 47 (segment (now (t .entry)) k))) ⌝ }
+{
+    let n = tag_len(t, k);
+    let from = 22 * (k - 1) + 4;
+    let end = from + n;
+    text::put(out, at, b'/');
+    text::copy(out, at + 1, &t[from..end]);
+    let next = at + 1 + n;
+    next + text::put_decimal(out, next, number(t, k))
+}
+
+// How long the way from the root to a node is, a separator before each segment.
+fn path_len(t: &[u8], k: usize) -> usize
+    requires { ⌜ (checkTree (now t) ≡ Checked.Good) × (k ≤ records (now t)) ⌝ }
+    ensures { λ r. ⌜ (r ≡ length (pathUp k (now (t .entry)) k)) × (r ≤ 22 * k) ⌝ }
+{
+    if k == 0 {
+        return 0;
+    }
+    path_len(t, parent(t, k)) + segment_len(t, k)
+}
+
+// Writes the way from the root to a node, its parent's first; tells the place after it.
+fn write_path(t: &[u8], k: usize, out: &mut [u8]) -> usize
+    requires { ⌜ (checkTree (now t) ≡ Checked.Good) × (k ≤ records (now t)) ⌝ }
+    ensures { λ r. ⌜ (r ≡ length (pathUp k (now (t .entry)) k)) × (now (out .exit) ≡ sets (now (out .entry)) 0 (pathUp k (now (t .entry)) k)) × (r ≤ 22 * k) ⌝ }
+{
+    if k == 0 {
+        return 0;
+    }
+    let at = write_path(t, parent(t, k), out);
+    put_segment(t, k, out, at)
+}
+
+// The full path of a node of a good tree.
+fn path_in(t: &[u8], k: usize, out: &mut [u8]) -> text::Answer
+    requires { ⌜ checkTree (now t) ≡ Checked.Good ⌝ }
+    ensures { λ r. ⌜ (r ≡ pathAnswer (length (now (out .entry))) (now (t .entry)) k) × (now (out .exit) ≡ pathRoom (now (out .entry)) (now (t .entry)) k) ⌝ }
+{
+    if t.len() / 22 < k {
+        return text::Answer::Refused {
+            number: 16,
+            place: 0,
+        };
+    }
+    if k == 0 {
+        if out.len() < 1 {
+            return text::Answer::Refused {
+                number: 19,
+                place: 0,
+            };
+        }
+        text::put(out, 0, b'/');
+        return text::Answer::Wrote(1);
+    }
+    let n = path_len(t, k);
+    if out.len() < n {
+        return text::Answer::Refused {
+            number: 19,
+            place: 0,
+        };
+    }
+    write_path(t, k, out);
+    text::Answer::Wrote(n)
+}
+
+// Writes the full path of a node into the room's start, or refuses: 15 a bad tree, 16 no such node, 19 no room.
+pub fn full_path(t: &[u8], k: usize, out: &mut [u8]) -> text::Answer
+    ensures { λ r. ⌜ (r ≡ pathAnswer (length (now (out .entry))) (now (t .entry)) k) × (now (out .exit) ≡ pathRoom (now (out .entry)) (now (t .entry)) k) ⌝ }
+{
+    match check(t) {
+        Checked::Bad(p) => text::Answer::Refused {
+            number: 15,
+            place: p,
+        },
+        Checked::Good => path_in(t, k, out),
+    }
 }

@@ -1,0 +1,57 @@
+-- `tree::path_in` meets its contract.
+use borrow.Author.Needs.{needs}
+use Rattle.tree.proofs.path_in.Statement.{statement}
+use Rattle.tree.proofs.path_in.Tie as tie
+use Rattle.tree.proofs.path_in.Reads as reads
+use Rattle.tree.proofs.path_in.Lts as lts
+use Rattle.text.proofs.put.Reads as put-reads
+use Rattle.tree.proofs.path_len.Reads as path-len-reads
+use Rattle.tree.proofs.write_path.Reads as write-path-reads
+use mathlib.Core.Path.{_≡_, refl, ap, sym, _∙_}
+use native.Mathlib.Omega.{arith}
+use Rattle.tree.proofs.UpLaws.{none-answer, none-room, small-root, small-root-room, root-answer, root-room, small-node, small-node-room, node-answer, node-room}
+
+returns : tie.Need-returns
+returns c = (search (none-answer, needs), search (none-room, needs))
+
+returns-2 : tie.Need-returns-2
+returns-2 c = (search (small-root, needs), search (small-root-room, needs))
+
+put-requires : tie.Need-put-requires
+put-requires c κs = search needs
+
+same-length : tie.Need-same-length
+same-length c = search needs
+
+returns-3 : tie.Need-returns-3
+returns-3 c = (search (root-answer, needs), search (root-room, needs))
+
+path-len-requires : tie.Need-path-len-requires
+path-len-requires c κs = search needs
+
+returns-4 : tie.Need-returns-4
+returns-4 c = (search (small-node, needs), search (small-node-room, needs))
+
+write-path-requires : tie.Need-write-path-requires
+write-path-requires c κs = search needs
+
+same-length-2 : tie.Need-same-length-2
+same-length-2 c = search needs
+
+returns-5 : tie.Need-returns-5
+returns-5 c = (search (node-answer, needs), search (node-room, needs))
+
+pub path-in-spec : {M : Type 1} → statement M
+path-in-spec =
+    tie.close
+    (tie.spec
+    returns
+    returns-2
+    put-requires
+    same-length
+    returns-3
+    path-len-requires
+    returns-4
+    write-path-requires
+    same-length-2
+    returns-5)

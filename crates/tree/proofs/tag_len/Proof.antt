@@ -1,0 +1,34 @@
+-- `tree::tag_len` meets its contract.
+use borrow.Author.Needs.{needs}
+use Rattle.tree.proofs.tag_len.Statement.{statement}
+use Rattle.tree.proofs.tag_len.Tie as tie
+use Rattle.tree.proofs.tag_len.Reads as reads
+use Rattle.tree.proofs.tag_len.Lts as lts
+use Rattle.text.proofs.pair.Reads as pair-reads
+use Prim.Native.Nat.{_+_, _-_, _*_, _/_, _<_, _≤_}
+use mathlib.Core.Path.{_≡_, refl, ap, sym, _∙_}
+use native.Mathlib.Omega.{arith}
+use lib.ListN.{length}
+use Rattle.tree.proofs.UpLaws.{node-whole, tag-read, tag-short}
+
+sub-p : tie.Need-sub-p
+sub-p c = search needs
+
+mul-p : tie.Need-mul-p
+mul-p c = search needs
+
+add-pair : tie.Need-add-pair
+add-pair c = search needs
+
+shared-slice-read-pair : tie.Need-shared-slice-read-pair
+shared-slice-read-pair c = let a = c .before .before in omega (arith, node-whole (a .args .t .now) (a .args .k) (a .pre .0) (a .pre .1) (a .pre .2))
+
+pair-requires : tie.Need-pair-requires
+pair-requires c κs = search needs
+
+returns : tie.Need-returns
+returns c = (search (tag-read, needs), search (tag-short, needs), search (node-whole, needs))
+
+pub tag-len-spec : {M : Type 1} → statement M
+tag-len-spec =
+    tie.close (tie.spec sub-p mul-p add-pair shared-slice-read-pair pair-requires returns)
