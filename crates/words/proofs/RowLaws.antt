@@ -12,7 +12,7 @@ use lib.Dec.{eqb, leb}
 use borrow.Author.Tests.{eq-eqb, ne-eqb, eqb-true, eqb-false, leb-true}
 use Rattle.text.specs.Bytes.{bytes, sameBytes}
 use Rattle.text.specs.Lists.{isNil, allOf}
-use Rattle.text.proofs.Basics.{and-l, and-r, and-false, no-case}
+use Rattle.text.proofs.Basics.{and-l, and-r, and-false, no-case, either}
 use Rattle.text.proofs.Scans.{step-of, same-length}
 use Rattle.words.specs.declared.Kind.{Kind}
 use Rattle.words.specs.declared.Kind.the-variants.{Mere, Keep, Level, Place, Entries}
@@ -28,6 +28,18 @@ unfolding allOf
 all-at f [] d e i h = absurd (omega arith)
 all-at f (x ∷ l) d e zero h = and-l (f x) (allOf f l) e
 all-at f (x ∷ l) d e (suc i) h = all-at f l d (and-r (f x) (allOf f l) e) i (omega arith)
+
+-- a test passed by each number below n
+unfoldable pub below : (ℕ → Bool) → ℕ → Bool
+below f zero = true
+below f (suc n) = f n && below f n
+
+pub below-at : (f : ℕ → Bool) (n : ℕ) → below f n ≡ true → (i : ℕ) → i < n → f i ≡ true
+unfolding below
+below-at f zero e i h = absurd (omega arith)
+below-at f (suc n) e i h =
+    either (eqb i n) (λ t. ap f (eqb-true i n t) ∙ and-l (f n) (below f n) e)
+    (λ t. let d = eqb-false i n t in below-at f n (and-r (f n) (below f n) e) i (omega (arith, d)))
 
 -- the default of a place within a list does not matter
 pub getD-within : {A : Type 0} (l : List A) (i : ℕ) (d e : A) → i < length l → getD l i d ≡ getD l i e
@@ -146,7 +158,7 @@ options-many : (t : List ℕ) → eqb (length t) 1 ≡ false → findRow 1 optio
 unfolding findRow rowNames find optionRows rowsFor longNames shortNames kinds bytes
 options-many t e = simp e
 
-options-long : (t : List ℕ) → length t ≡ 1 → find 1 longNames t ≡ none
+pub options-long : (t : List ℕ) → length t ≡ 1 → find 1 longNames t ≡ none
 unfolding allOf longNames bytes
 options-long t e = none-long 1 longNames t e refl
 

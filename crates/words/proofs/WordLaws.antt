@@ -1,0 +1,285 @@
+-- The name at a number is recognised as that number, and nothing else is; of what form the names are. Assumes nothing.
+use Prim.Native.Nat.{ℕ, zero, suc, _+_, _-_, _<_, _≤_}
+use mathlib.Core.Path.{_≡_, refl, sym, ap, _∙_}
+use mathlib.Core.List.{List, [], _∷_, map}
+use mathlib.Core.Bool.{Bool, true, false, cond, not, _&&_, _||_}
+use mathlib.Core.Option.{Option, none, some}
+use mathlib.Core.Logic.{_⊎_, inl, inr, ⊎-elim}
+use native.Mathlib.Omega.{arith}
+use lib.ListN.{length, getD}
+use lib.Dec.{eqb, leb}
+use borrow.Author.Tests.{ne-eqb, eqb-true, leb-true, leb-false}
+use Rattle.text.specs.Bytes.{bytes, sameBytes, oneOf, isWord}
+use Rattle.text.specs.Lists.{isNil, allOf}
+use Rattle.text.proofs.Basics.{and-l, and-r, and-in, neg, neg-in, no-case, none-some, same-some, same-eq, same-refl, either, or-case}
+use Rattle.words.specs.declared.Kind.{Kind}
+use Rattle.words.specs.declared.Kind.the-variants.{Mere, Keep, Level, Place, Entries}
+use Rattle.words.specs.Words.{verbNames, longNames, shortNames, names, find, or, verbOf, optionOf, verbName, optionName, kinds, kindOf}
+use Rattle.words.specs.Rows.{verbRows, rowName}
+use Rattle.words.specs.Names.{shortName, isLower, takesArgument, isMere}
+use Rattle.words.proofs.RowLaws.{all-at, names-length, below, below-at, options-long, verb-name, option-none, option-out, kind-out}
+
+-- ---- a search among names
+
+-- a name names itself
+pub names-self : (n : List ℕ) → isNil n ≡ false → names n n ≡ true
+unfolding names
+names-self n h = and-in (not (isNil n)) (sameBytes n n) (neg-in (isNil n) h) (same-refl n)
+
+-- no name names a later one
+distinct : List (List ℕ) → Bool
+distinct [] = true
+distinct (n ∷ ns) = allOf (λ m. not (names n m)) ns && distinct ns
+
+there : (ns : List (List ℕ)) (i : ℕ) → isNil (getD ns i []) ≡ false → i < length ns
+there [] i h = no-case h
+there (n ∷ ns) zero h = omega arith
+there (n ∷ ns) (suc i) h = let t = there ns i h in omega arith
+
+-- where no name names another, the name at a place is found there
+find-again : (k : ℕ) (ns : List (List ℕ)) → distinct ns ≡ true → (i : ℕ) → isNil (getD ns i []) ≡ false → find k ns (getD ns i []) ≡ some (k + i)
+unfolding find distinct
+find-again k [] d i h = no-case h
+find-again k (n ∷ ns) d zero h = let e : k + 0 ≡ k = omega arith in rw (names-self n h) (ap some (sym e))
+find-again k (n ∷ ns) d (suc i) h =
+    let e : k + suc i ≡ suc k + i = omega arith in
+    let o = neg (names n (getD ns i [])) (all-at (λ m. not (names n m)) ns [] (and-l (allOf (λ m. not (names n m)) ns) (distinct ns) d) i (there ns i h)) in
+    rw o (find-again (suc k) ns (and-r (allOf (λ m. not (names n m)) ns) (distinct ns) d) i h ∙ ap some (sym e))
+
+-- what is found is the name at its place, which is not empty
+find-name : (k : ℕ) (ns : List (List ℕ)) (s : List ℕ) (j : ℕ) → find k ns s ≡ some j
+    → (k ≤ j) × (j < k + length ns) × (s ≡ getD ns (j - k) []) × (isNil s ≡ false)
+unfolding find names
+find-name k [] s j e = none-some j e
+find-name k (n ∷ ns) s j e =
+    either (not (isNil n) && sameBytes s n)
+    (λ t.
+    let q = same-some k j (rw t at e) in
+    let z : j - k ≡ 0 = omega arith in
+    let p = same-eq s n (and-r (not (isNil n)) (sameBytes s n) t) in
+    (omega arith, omega arith, rw z p, ap isNil p ∙ neg (isNil n) (and-l (not (isNil n)) (sameBytes s n) t)))
+    (λ t.
+    let r = find-name (suc k) ns s j (rw t at e) in
+    let z : j - k ≡ suc (j - suc k) = omega (arith, r .0) in
+    (omega (arith, r .0), omega (arith, r .1), rw z (r .2), r .3))
+
+-- ---- what a test over all names says of the name at a number
+
+unfoldable shape : ℕ → List ℕ → Bool
+shape most n = not (isNil n) && (allOf isLower n && (allOf isWord n && leb (length n) most))
+
+shape-says : (most : ℕ) (n : List ℕ) → shape most n ≡ true → (isNil n ≡ false) × (allOf isLower n ≡ true) × (allOf isWord n ≡ true) × (length n ≤ most)
+unfolding shape
+shape-says most n e =
+    let a = and-r (not (isNil n)) (allOf isLower n && (allOf isWord n && leb (length n) most)) e in
+    let b = and-r (allOf isLower n) (allOf isWord n && leb (length n) most) a in (
+      neg (isNil n) (and-l (not (isNil n)) (allOf isLower n && (allOf isWord n && leb (length n) most)) e),
+      and-l (allOf isLower n) (allOf isWord n && leb (length n) most) a,
+      and-l (allOf isWord n) (leb (length n) most) b,
+      leb-true (length n) most (and-r (allOf isWord n) (leb (length n) most) b),
+    )
+
+verbs-shape : allOf (shape 7) verbNames ≡ true
+unfolding allOf shape isWord verbNames bytes
+verbs-shape = refl
+
+verbs-distinct : distinct verbNames ≡ true
+unfolding allOf distinct names sameBytes verbNames bytes
+verbs-distinct = refl
+
+verbs-many : length verbNames ≡ 13
+unfolding verbNames
+verbs-many = refl
+
+longs-shape : allOf (shape 11) longNames ≡ true
+unfolding allOf shape isWord longNames bytes
+longs-shape = refl
+
+longs-distinct : distinct longNames ≡ true
+unfolding allOf distinct names sameBytes longNames bytes
+longs-distinct = refl
+
+longs-many : length longNames ≡ 12
+unfolding longNames
+longs-many = refl
+
+shorts-distinct : distinct shortNames ≡ true
+unfolding allOf distinct names sameBytes shortNames bytes
+shorts-distinct = refl
+
+shorts-many : length shortNames ≡ 12
+unfolding shortNames
+shorts-many = refl
+
+-- ---- verbs
+
+verb-at : (i : ℕ) → verbName (suc i) ≡ getD verbNames i []
+unfolding verbName
+verb-at i = refl
+
+-- the names are not empty, of lower case letters, and at most 7 bytes long
+pub verb-shape : (k : ℕ) → 1 ≤ k → k ≤ 13 → (isNil (verbName k) ≡ false) × (allOf isLower (verbName k) ≡ true) × (allOf isWord (verbName k) ≡ true) × (length (verbName k) ≤ 7)
+verb-shape zero a b = absurd (omega arith)
+verb-shape (suc i) a b = shape-says 7 (verbName (suc i)) (ap (shape 7) (verb-at i) ∙ all-at (shape 7) verbNames [] verbs-shape i (omega (arith, verbs-many)))
+
+-- the name at k is recognised as k
+pub verb-again : (k : ℕ) → 1 ≤ k → k ≤ 13 → verbOf (verbName k) ≡ some k
+unfolding verbOf
+verb-again zero a b = absurd (omega arith)
+verb-again (suc i) a b =
+    let e : 1 + i ≡ suc i = omega arith in
+    let h = sym (ap isNil (verb-at i)) ∙ verb-shape (suc i) a b .0 in
+    ap (find 1 verbNames) (verb-at i) ∙ find-again 1 verbNames verbs-distinct i h ∙ ap some e
+
+-- and nothing else is
+pub verb-only-name : (s : List ℕ) (k : ℕ) → verbOf s ≡ some k → (1 ≤ k) × (k ≤ 13) × (s ≡ verbName k)
+unfolding verbOf
+verb-only-name s k e =
+    let f = find-name 1 verbNames s k e in
+    let z : suc (k - 1) ≡ k = omega (arith, f .0) in
+    (f .0, omega (arith, f .1, verbs-many), f .2 ∙ sym (verb-at (k - 1)) ∙ ap verbName z)
+
+-- two numbers have two names
+pub verb-names-differ : (j k : ℕ) → 1 ≤ j → j ≤ 13 → 1 ≤ k → k ≤ 13 → verbName j ≡ verbName k → j ≡ k
+verb-names-differ j k a b c d e = same-some j k (sym (verb-again j a b) ∙ ap verbOf e ∙ verb-again k c d)
+
+-- the two forms joined: the strings recognise a text as a number exactly where it is the name in that number's row of the table
+pub verb-forms : (t : List ℕ) (k : ℕ) → 1 ≤ k → k ≤ 13
+    → (verbOf t ≡ some k → t ≡ rowName (getD verbRows (k - 1) [])) × (t ≡ rowName (getD verbRows (k - 1) []) → verbOf t ≡ some k)
+verb-forms t k a b =
+    let e = verb-name k (λ z. absurd (omega arith)) in
+    (λ f. verb-only-name t k f .2 ∙ sym e, λ f. ap verbOf (f ∙ e) ∙ verb-again k a b)
+
+-- ---- options
+
+option-at : (i : ℕ) → optionName (suc i) ≡ getD longNames i []
+unfolding optionName
+option-at i = refl
+
+short-at : (i : ℕ) → shortName (suc i) ≡ getD shortNames i []
+unfolding shortName
+short-at i = refl
+
+-- the long names are not empty, of lower case letters, and at most 11 bytes long
+pub option-shape : (k : ℕ) → 1 ≤ k → k ≤ 12
+    → (isNil (optionName k) ≡ false) × (allOf isLower (optionName k) ≡ true) × (allOf isWord (optionName k) ≡ true) × (length (optionName k) ≤ 11)
+option-shape zero a b = absurd (omega arith)
+option-shape (suc i) a b =
+    shape-says 11 (optionName (suc i)) (ap (shape 11) (option-at i) ∙ all-at (shape 11) longNames [] longs-shape i (omega (arith, longs-many)))
+
+-- the long name at k is recognised as k
+pub option-again : (k : ℕ) → 1 ≤ k → k ≤ 12 → optionOf (optionName k) ≡ some k
+unfolding optionOf
+option-again zero a b = absurd (omega arith)
+option-again (suc i) a b =
+    let e : 1 + i ≡ suc i = omega arith in
+    let h = sym (ap isNil (option-at i)) ∙ option-shape (suc i) a b .0 in
+    ap (λ n. or (find 1 longNames n) (find 1 shortNames n)) (option-at i)
+    ∙ ap (λ o. or o (find 1 shortNames (getD longNames i []))) (find-again 1 longNames longs-distinct i h ∙ ap some e)
+
+-- numbers with a name are 1 to 12
+option-within : (k : ℕ) → isNil (optionName k) ≡ false → (1 ≤ k) × (k ≤ 12)
+option-within zero h = no-case (sym (ap isNil option-none) ∙ h)
+option-within (suc i) h =
+    either (leb (suc i) 12) (λ t. (omega arith, leb-true (suc i) 12 t))
+    (λ t. no-case (sym (ap isNil (option-out (suc i) (leb-false (suc i) 12 t))) ∙ h))
+
+-- short names have one byte
+shorts-length : allOf (λ n. isNil n || eqb (length n) 1) shortNames ≡ true
+unfolding allOf shortNames bytes
+shorts-length = refl
+
+short-length : (i : ℕ) → isNil (getD shortNames i []) ≡ false → length (getD shortNames i []) ≡ 1
+short-length i h =
+    let n = getD shortNames i [] in
+    let t = all-at (λ n. isNil n || eqb (length n) 1) shortNames [] shorts-length i (there shortNames i h) in
+    or-case (isNil n) (eqb (length n) 1) t (λ e. no-case (sym e ∙ h)) (λ e. eqb-true (length n) 1 e)
+
+-- so is the short name at k, where there is one
+pub option-short-again : (k : ℕ) → isNil (shortName k) ≡ false → optionOf (shortName k) ≡ some k
+unfolding optionOf shortName
+option-short-again zero h = no-case h
+option-short-again (suc i) h =
+    let e : 1 + i ≡ suc i = omega arith in
+    let g = sym (ap isNil (short-at i)) ∙ h in
+    ap (λ n. or (find 1 longNames n) (find 1 shortNames n)) (short-at i)
+    ∙ ap (λ o. or o (find 1 shortNames (getD shortNames i []))) (options-long (getD shortNames i []) (short-length i g))
+    ∙ find-again 1 shortNames shorts-distinct i g
+    ∙ ap some e
+
+-- and nothing else is
+pub option-only-name : (s : List ℕ) (k : ℕ) → optionOf s ≡ some k → (1 ≤ k) × (k ≤ 12) × ((s ≡ optionName k) ⊎ (s ≡ shortName k)) × (isNil s ≡ false)
+unfolding optionOf
+option-only-name s k e = go (find 1 longNames s) refl e
+  where
+    long : find 1 longNames s ≡ some k → (1 ≤ k) × (k ≤ 12) × ((s ≡ optionName k) ⊎ (s ≡ shortName k)) × (isNil s ≡ false)
+    long f =
+        let r = find-name 1 longNames s k f in
+        let z : suc (k - 1) ≡ k = omega (arith, r .0) in
+        (r .0, omega (arith, r .1, longs-many), inl (r .2 ∙ sym (option-at (k - 1)) ∙ ap optionName z), r .3)
+
+    short : find 1 shortNames s ≡ some k → (1 ≤ k) × (k ≤ 12) × ((s ≡ optionName k) ⊎ (s ≡ shortName k)) × (isNil s ≡ false)
+    short f =
+        let r = find-name 1 shortNames s k f in
+        let z : suc (k - 1) ≡ k = omega (arith, r .0) in
+        (r .0, omega (arith, r .1, shorts-many), inr (r .2 ∙ sym (short-at (k - 1)) ∙ ap shortName z), r .3)
+
+    go : (o : Option ℕ) → find 1 longNames s ≡ o → or o (find 1 shortNames s) ≡ some k
+        → (1 ≤ k) × (k ≤ 12) × ((s ≡ optionName k) ⊎ (s ≡ shortName k)) × (isNil s ≡ false)
+    go none q f = short f
+    go (some j) q f = long (q ∙ f)
+
+-- a text that is one of the two names of k, and not empty, is recognised as k
+pub option-by-name : (s : List ℕ) (k : ℕ) → isNil s ≡ false → (s ≡ optionName k) ⊎ (s ≡ shortName k) → optionOf s ≡ some k
+option-by-name s k h = ⊎-elim (λ e. long e) (λ e. ap optionOf e ∙ option-short-again k (sym (ap isNil e) ∙ h))
+  where
+    long : s ≡ optionName k → optionOf s ≡ some k
+    long e = let w = option-within k (sym (ap isNil e) ∙ h) in ap optionOf e ∙ option-again k (w .0) (w .1)
+
+-- no text names two options
+pub option-one : (s : List ℕ) (j k : ℕ) → isNil s ≡ false → (s ≡ optionName j) ⊎ (s ≡ shortName j) → (s ≡ optionName k) ⊎ (s ≡ shortName k) → j ≡ k
+option-one s j k h p q = same-some j k (sym (option-by-name s j h p) ∙ option-by-name s k h q)
+
+-- ---- arguments
+
+alike : Bool → Bool → Bool
+alike a b = cond a b (not b)
+
+alike-eq : (a b : Bool) → alike a b ≡ true → a ≡ b
+unfolding alike
+alike-eq true b e = sym e
+alike-eq false b e = sym (neg b e)
+
+kinds-right : below (λ k. alike (isMere (kindOf k)) (not (takesArgument k))) 13 ≡ true
+unfolding below alike kindOf kinds takesArgument oneOf
+kinds-right = refl
+
+-- past the last option nothing takes an argument
+takes-none : (k : ℕ) → 12 < k → takesArgument k ≡ false
+unfolding takesArgument oneOf
+takes-none k h =
+    let out : (n : ℕ) → n < k → eqb k n ≡ false = λ n l. ne-eqb k n (λ e. absurd (omega arith)) in
+    simp (out 2 (omega arith), out 3 (omega arith), out 7 (omega arith), out 8 (omega arith), out 9 (omega arith), out 10 (omega arith))
+
+-- an option's kind is Mere exactly where it takes no argument
+pub kind-takes : (k : ℕ) → isMere (kindOf k) ≡ not (takesArgument k)
+kind-takes k =
+    either (leb k 12)
+    (λ t.
+    let h = leb-true k 12 t in
+    alike-eq (isMere (kindOf k)) (not (takesArgument k)) (below-at (λ k. alike (isMere (kindOf k)) (not (takesArgument k))) 13 kinds-right k (omega arith)))
+    (λ t. let h = leb-false k 12 t in ap isMere (kind-out k h) ∙ sym (ap not (takes-none k h)))
+
+-- the same, both ways
+pub kind-mere : (k : ℕ) → takesArgument k ≡ false → kindOf k ≡ Mere
+kind-mere k e = mere (kindOf k) (kind-takes k ∙ ap not e)
+  where
+    mere : (a : Kind) → isMere a ≡ true → a ≡ Mere
+    mere Mere e = refl
+    mere Keep e = no-case (sym e)
+    mere Level e = no-case (sym e)
+    mere Place e = no-case (sym e)
+    mere Entries e = no-case (sym e)
+
+pub mere-takes : (k : ℕ) → kindOf k ≡ Mere → takesArgument k ≡ false
+mere-takes k e = neg (takesArgument k) (sym (kind-takes k) ∙ ap isMere e)
