@@ -2,7 +2,9 @@
 use Prim.Native.Nat.{ℕ}
 use mathlib.Core.Path.{_≡_}
 use mathlib.Core.List.{List, [], _∷_, _++_, flatten}
+use mathlib.Core.Bool.{Bool, not, _&&_, _||_}
 use lib.ListN.{length}
+use lib.Dec.{eqb}
 use Rattle.joiner.specs.declared.Joiner.{Joiner}
 use Rattle.joiner.specs.declared.End.{End}
 use Rattle.joiner.specs.Lines.{Given, linesOf}
@@ -32,3 +34,7 @@ runEnd c r = endOf (r .last)
 -- how many lines have ended with the end of line e that follows x
 abbrev pub endedBy : List ℕ → ℕ → ℕ → ℕ
 endedBy p x e = length (linesOf (p ++ (x ∷ e ∷ [])))
+
+-- the tail begins with a byte that is no GRAVE, CR or LF, then a CR or LF
+unfoldable pub resumes : ℕ → ℕ → Bool
+resumes x e = not (eqb x 96) && not (eqb x 13) && not (eqb x 10) && (eqb e 13 || eqb e 10)
