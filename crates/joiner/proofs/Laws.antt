@@ -81,6 +81,18 @@ module _ (s : Joiner) (x : ℕ) where
       go true = refl
       go false = refl
 
+-- ---- what an end of line does
+
+module _ (s : Joiner) (r : Bool) where
+  pub end-joins : s .grave ≡ true → record { state = st (s .held) false r (s .over); outcome = More } ≡ steppedOf (endStep r s)
+  end-joins g = simp g
+
+  pub end-refused : s .grave ≡ false → s .over ≡ true → record { state = st 0 false r false; outcome = Refused 1 1024 } ≡ steppedOf (endStep r s)
+  end-refused g o = simp (g, o)
+
+  pub end-line : s .grave ≡ false → s .over ≡ false → record { state = st 0 false r false; outcome = Line (s .held) } ≡ steppedOf (endStep r s)
+  end-line g o = simp (g, o)
+
 -- ---- what `step` leaves behind, from what its calls of `push` left behind
 
 module _ (s r₁ : Joiner) (b b₁ : List ℕ) (x : ℕ) where

@@ -164,38 +164,35 @@ impl Joiner {
         self
     }
 
-    // An end of line: a GRAVE before it joins.
+    // An end of line: a GRAVE before it joins. Otherwise the line is given, or refused, and the next one begins.
     fn ended(mut self, cr: bool) -> Stepped
         ensures { λ r. ⌜ r ≡ steppedOf (endStep cr self) ⌝ }
     {
-        if self.grave {
-            self.grave = false;
-            self.cr = cr;
+        let joins = self.grave;
+        self.grave = false;
+        self.cr = cr;
+        if joins {
             return Stepped {
                 state: self,
                 outcome: Outcome::More,
             };
         }
-        let next = Joiner {
-            held: 0,
-            grave: false,
-            cr,
-            over: false,
-        };
-        if self.over {
-            Stepped {
-                state: next,
+        let n = self.held;
+        let over = self.over;
+        self.held = 0;
+        self.over = false;
+        if over {
+            return Stepped {
+                state: self,
                 outcome: Outcome::Refused {
                     number: 1,
                     place: 1024,
                 },
-            }
-        } else {
-            let n = self.held;
-            Stepped {
-                state: next,
-                outcome: Outcome::Line(n),
-            }
+            };
+        }
+        Stepped {
+            state: self,
+            outcome: Outcome::Line(n),
         }
     }
 
@@ -260,7 +257,7 @@ impl Joiner {
             return Passed { state: self, at };
         }
         let held = self.held;
-        if 1024 < held {
+        if 1023 < held {
             return Passed { state: self, at };
         }
         let c = copy(held, buffer, part, at);
