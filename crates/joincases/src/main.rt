@@ -12,6 +12,12 @@ fn number(n: usize) {
     io::write_all(1, b" ");
 }
 
+fn title(n: usize) {
+    io::write_all(1, b"case ");
+    number(n);
+    io::write_all(1, b"\n");
+}
+
 fn flag(b: bool) {
     if b {
         number(1);
@@ -145,6 +151,14 @@ fn capture(one: &[u8], two: &[u8]) {
     end(s);
 }
 
+// The same, where the first part is so many times `a`.
+fn long(n: usize, two: &[u8])
+    requires { ⌜ n ≤ 1025 ⌝ }
+{
+    let one = [97u8; 1025];
+    capture(&one[..n], two);
+}
+
 // A call from a state, and the end of the capture there.
 fn from(s: Joiner, part: &[u8]) {
     let mut buffer = [46u8; 1024];
@@ -153,54 +167,74 @@ fn from(s: Joiner, part: &[u8]) {
 }
 
 fn limit() {
-    io::write_all(1, b"1,024 bytes\n");
-    capture(&[97u8; 1024], b"\n");
-    io::write_all(1, b"1,025 bytes\n");
-    capture(&[97u8; 1025], b"\nb\r");
-    io::write_all(1, b"1,024 bytes and no end of line\n");
-    capture(&[97u8; 1024], b"");
-    io::write_all(1, b"1,025 bytes and no end of line\n");
-    capture(&[97u8; 1025], b"");
+    // 1,024 bytes
+    title(1);
+    long(1024, b"\n");
+    // 1,025 bytes
+    title(2);
+    long(1025, b"\nb\r");
+    // 1,024 bytes and no end of line
+    title(3);
+    long(1024, b"");
+    // 1,025 bytes and no end of line
+    title(4);
+    long(1025, b"");
 }
 
 fn pairs() {
-    io::write_all(1, b"a pair before the limit\n");
-    capture(&[97u8; 1022], b"`b\n");
-    io::write_all(1, b"a pair across the limit\n");
-    capture(&[97u8; 1023], b"`b\n");
-    io::write_all(1, b"a pair past the limit\n");
-    capture(&[97u8; 1024], b"`b\n");
-    io::write_all(1, b"a GRAVE that waits at the limit, and joins\n");
-    capture(&[97u8; 1024], b"`\n\n");
-    io::write_all(1, b"a GRAVE that waits at the limit, and the end\n");
-    capture(&[97u8; 1024], b"`");
-    io::write_all(1, b"an escaped GRAVE before an end of line\n");
+    // a pair before the limit
+    title(5);
+    long(1022, b"`b\n");
+    // a pair across the limit
+    title(6);
+    long(1023, b"`b\n");
+    // a pair past the limit
+    title(7);
+    long(1024, b"`b\n");
+    // a GRAVE that waits at the limit, and joins
+    title(8);
+    long(1024, b"`\n\n");
+    // a GRAVE that waits at the limit, and the end
+    title(9);
+    long(1024, b"`");
+    // an escaped GRAVE before an end of line
+    title(10);
     capture(b"a``\n", b"b```\nc\n");
 }
 
 fn joins() {
-    io::write_all(1, b"joins in the part thrown away\n");
-    capture(&[97u8; 1025], b"b`\r\nc`\nd``\ne\n");
-    io::write_all(1, b"show in two\n");
+    // joins in the part thrown away
+    title(11);
+    long(1025, b"b`\r\nc`\nd``\ne\n");
+    // show in two
+    title(12);
     capture(b"sh`\r\now\n", b"");
-    io::write_all(1, b"show in two, cut after the CR\n");
+    // show in two, cut after the CR
+    title(13);
     capture(b"sh`\r", b"\now\n");
-    io::write_all(1, b"a join and nothing else held\n");
+    // a join and nothing else held
+    title(14);
     capture(b"`\n", b"");
-    io::write_all(1, b"a quote holds no line open\n");
+    // a quote holds no line open
+    title(15);
     capture(b"\"a\n", b"b\"\n");
 }
 
 fn ends() {
-    io::write_all(1, b"CR LF in one part\n");
+    // CR LF in one part
+    title(16);
     capture(b"a\r\nb\n", b"");
-    io::write_all(1, b"CR LF cut between two calls\n");
+    // CR LF cut between two calls
+    title(17);
     capture(b"a\r", b"\nb\n");
-    io::write_all(1, b"the LF of a CR LF as a part of its own\n");
+    // the LF of a CR LF as a part of its own
+    title(18);
     capture(b"a\r", b"\n");
-    io::write_all(1, b"CR, LF, CR CR, LF LF\n");
+    // CR, LF, CR CR, LF LF
+    title(19);
     capture(b"a\rb\n\r", b"\r\n\n");
-    io::write_all(1, b"a GRAVE at the end\n");
+    // a GRAVE at the end
+    title(20);
     capture(b"a\n", b"`");
 }
 
@@ -215,45 +249,50 @@ fn odd(held: usize, grave: bool, cr: bool, over: bool, part: &[u8]) {
 }
 
 fn states() {
-    io::write_all(
-        1,
-        b"an empty part: from the start, with text held, with a GRAVE, after a CR, too long\n",
-    );
+    // an empty part: from the start, with text held, with a GRAVE, after a CR, too long
+    title(21);
     odd(0, false, false, false, b"");
     odd(5, false, false, false, b"");
     odd(5, true, false, false, b"");
     odd(5, false, true, false, b"");
     odd(1024, false, false, true, b"");
-    io::write_all(1, b"an empty part from a state that no capture leads to\n");
+    // an empty part from a state that no capture leads to
+    title(22);
     odd(1025, false, false, false, b"");
 }
 
 fn impossible() {
-    io::write_all(1, b"over 1,024 held\n");
+    // over 1,024 held
+    title(23);
     odd(1025, false, false, false, b"a\n");
     odd(1025, false, false, true, b"a\n");
-    io::write_all(1, b"too long with room\n");
+    // too long with room
+    title(24);
     odd(1023, false, false, true, b"a\n");
-    io::write_all(1, b"a GRAVE waits directly after a CR\n");
+    // a GRAVE waits directly after a CR
+    title(25);
     odd(0, true, true, false, b"\n");
     odd(1024, true, true, true, b"\n");
-    io::write_all(1, b"the last states that some capture leads to\n");
+    // the last states that some capture leads to
+    title(26);
     odd(1024, true, false, true, b"\n");
     odd(1024, false, true, true, b"\n\n");
 }
 
 fn lengths() {
     let mut short = [46u8; 1023];
-    let mut long = [46u8; 1025];
+    let mut wide = [46u8; 1025];
     let mut none = [46u8; 1];
     let mut s = Joiner::new();
-    io::write_all(1, b"a buffer of 1,023 bytes, of 1,025, of 1\n");
+    // a buffer of 1,023 bytes, of 1,025, of 1
+    title(27);
     s = call(s, &mut short, b"a\n");
-    s = call(s, &mut long, b"a\n");
+    s = call(s, &mut wide, b"a\n");
     s = call(s, &mut none, b"a\n");
-    io::write_all(1, b"and an empty part\n");
+    // and an empty part
+    title(28);
     s = call(s, &mut short, b"");
-    s = call(s, &mut long, b"");
+    s = call(s, &mut wide, b"");
     end(s);
 }
 
