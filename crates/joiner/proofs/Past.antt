@@ -10,7 +10,7 @@ use mathlib.Core.Bool.{Bool, true, false, _&&_, cond, false≢true, true≢false
 use mathlib.Core.Logic.{_⊎_, inl, inr, ⊎-elim}
 use lib.ListN.{length, drop, set, length-set}
 use lib.Dec.{eqb}
-use borrow.Author.Tests.{eqb-true}
+use borrow.Author.Tests.{eqb-true, eq-eqb}
 use lib.Seq.{drop-set-lt, drop-drop, set-out}
 use Rattle.joiner.specs.declared.Joiner.{Joiner}
 use Rattle.joiner.specs.declared.Outcome.{Outcome}
@@ -19,7 +19,7 @@ use Rattle.joiner.specs.Lines.{Kind, CR, LF, GRAVE, plain, kindOf}
 use Rattle.joiner.specs.Step.{byteStep, stepBy, st, more, stored, lineOf, reachable}
 use Rattle.joiner.specs.Join.{Ran, ran, run, joinOf}
 use Rattle.joiner.proofs.Laws.{isMore, cons-more, cons-stop}
-use Rattle.joiner.proofs.Reach.{Fine, to-fine, fine-step, room, more-room, more-full}
+use Rattle.joiner.proofs.Reach.{Fine, to-fine, of-fine, fine-step, room, more-room, more-full}
 
 -- how far the text reaches: what is held, or the line just ended
 abbrev pub reach : Outcome → ℕ → ℕ
@@ -165,3 +165,47 @@ more-uses-all s b p = go (eqb (length b) 1024 && reachable s)
         isMore (R .answer .outcome) ≡ true → R .answer .used ≡ length p
     go true h = omega (arith, run-all 0 s b p h)
     go false h = absurd (false≢true h)
+
+-- ---- a call that is not refused leaves a state and a buffer that the next call does not refuse, and uses a byte or more where there is one
+
+run-low : (n : ℕ) (s : Joiner) (b p : List ℕ) → n ≤ run n s b p .answer .used
+unfolding run
+run-low n s b [] = le-refl n
+run-low n s b (x ∷ xs) = go (isMore (byteStep s x .out)) refl (run-low (suc n) (byteStep s x .state) (stored (s .held) b (byteStep s x .put)) xs)
+  where
+    go : (m : Bool) → isMore (byteStep s x .out) ≡ m
+        → suc n ≤ run (suc n) (byteStep s x .state) (stored (s .held) b (byteStep s x .put)) xs .answer .used
+        → n ≤ run n s b (x ∷ xs) .answer .used
+    go true e r = rw (cons-more n s b x xs e) (omega arith)
+    go false e r = rw (cons-stop n s b x xs e) (omega arith)
+
+run-some : (n : ℕ) (s : Joiner) (b p : List ℕ) → 0 < length p → n < run n s b p .answer .used
+run-some n s b [] h = absurd (omega arith)
+run-some n s b (x ∷ xs) h = go (isMore (byteStep s x .out)) refl
+  where
+    go : (m : Bool) → isMore (byteStep s x .out) ≡ m → n < run n s b (x ∷ xs) .answer .used
+    go true e =
+        rw (cons-more n s b x xs e)
+        (omega (arith, run-low (suc n) (byteStep s x .state) (stored (s .held) b (byteStep s x .put)) xs))
+    go false e = rw (cons-stop n s b x xs e) (omega arith)
+
+run-fine : (n : ℕ) (s : Joiner) (b p : List ℕ) → Fine s → Fine (run n s b p .answer .state)
+unfolding run
+run-fine n s b [] f = f
+run-fine n s b (x ∷ xs) f =
+    go (isMore (byteStep s x .out)) refl (run-fine (suc n) (byteStep s x .state) (stored (s .held) b (byteStep s x .put)) xs (fine-step s x f))
+  where
+    go : (m : Bool) → isMore (byteStep s x .out) ≡ m
+        → Fine (run (suc n) (byteStep s x .state) (stored (s .held) b (byteStep s x .put)) xs .answer .state)
+        → Fine (run n s b (x ∷ xs) .answer .state)
+    go true e r = rw (cons-more n s b x xs e) r
+    go false e r = rw (cons-stop n s b x xs e) (fine-step s x f)
+
+pub goes-on : (s : Joiner) (b p : List ℕ) → length b ≡ 1024 → reachable s ≡ true
+    → let R : Ran = joinOf s b p in
+    (length (R .buffer) ≡ 1024) × (reachable (R .answer .state) ≡ true) × (0 < length p → 0 < R .answer .used)
+unfolding joinOf
+goes-on s b p l h =
+    let f = to-fine s h in
+    rw (eq-eqb (length b) 1024 l, h)
+    (past 0 s b p f l .long ∙ l, of-fine (run 0 s b p .answer .state) (run-fine 0 s b p f), run-some 0 s b p)
