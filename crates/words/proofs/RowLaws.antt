@@ -4,7 +4,6 @@ use mathlib.Core.Path.{_≡_, refl, sym, ap, _∙_}
 use mathlib.Core.List.{List, [], _∷_, map}
 use mathlib.Core.Bool.{Bool, true, false, cond, not, _&&_}
 use mathlib.Core.Option.{Option, none, some}
-use native.Mathlib.Numerals.{add-one}
 use native.Mathlib.Omega.{arith}
 use lib.ListN.{length, getD, take, drop, List·getD-map, List·getD-eq-default, length-drop, drop-of-length-le}
 use lib.Seq.{length-take-le}
@@ -14,13 +13,11 @@ use Rattle.text.specs.Bytes.{bytes, sameBytes}
 use Rattle.text.specs.Lists.{isNil, allOf}
 use Rattle.text.proofs.Basics.{and-l, and-r, and-false, no-case, either}
 use Rattle.text.proofs.Scans.{step-of, same-length}
-use Rattle.words.specs.declared.Kind.{Kind}
-use Rattle.words.specs.declared.Kind.the-variants.{Mere, Keep, Level, Place, Entries}
-use Rattle.words.specs.declared.Known.{Known}
+use Rattle.words.specs.declared.Kind.the-variants.{Mere}
 use Rattle.words.specs.declared.Known.the-variants.{Is, Unknown}
 use Rattle.words.specs.Tables.{known}
 use Rattle.words.specs.Words.{verbNames, longNames, shortNames, names, find, or, verbOf, optionOf, kinds, kindOf, verbName, optionName, bodies, bodyOf}
-use Rattle.words.specs.Rows.{verbRows, rowsFor, optionRows, kindAt, rowName, rowShort, rowKind, rowNames, findRow, findOf, bodyByte, bodyBytes, bodyAt}
+use Rattle.words.specs.Rows.{verbRows, rowsFor, optionRows, kindAt, rowName, rowKind, rowNames, findRow, findOf, bodyBytes, bodyAt}
 
 -- a rule that a test finds in a whole list holds at each place
 pub all-at : {A : Type 0} (f : A → Bool) (l : List A) (d : A) → allOf f l ≡ true → (i : ℕ) → i < length l → f (getD l i d) ≡ true

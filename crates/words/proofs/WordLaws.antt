@@ -1,7 +1,7 @@
 -- The name at a number is recognised as that number, and nothing else is; of what form the names are. Assumes nothing.
 use Prim.Native.Nat.{ℕ, zero, suc, _+_, _-_, _<_, _≤_}
 use mathlib.Core.Path.{_≡_, refl, sym, ap, _∙_}
-use mathlib.Core.List.{List, [], _∷_, map}
+use mathlib.Core.List.{List, [], _∷_}
 use mathlib.Core.Bool.{Bool, true, false, cond, not, _&&_, _||_}
 use mathlib.Core.Option.{Option, none, some}
 use mathlib.Core.Logic.{_⊎_, inl, inr, ⊎-elim}
@@ -17,7 +17,7 @@ use Rattle.words.specs.declared.Kind.the-variants.{Mere, Keep, Level, Pl
 use Rattle.words.specs.Words.{verbNames, longNames, shortNames, names, find, or, verbOf, optionOf, verbName, optionName, kinds, kindOf}
 use Rattle.words.specs.Rows.{verbRows, rowName}
 use Rattle.words.specs.Names.{shortName, isLower, takesArgument, isMere}
-use Rattle.words.proofs.RowLaws.{all-at, names-length, below, below-at, options-long, verb-name, option-none, option-out, kind-out}
+use Rattle.words.proofs.RowLaws.{all-at, below, below-at, options-long, verb-name, option-none, option-out, kind-out}
 
 -- ---- a search among names
 

@@ -7,7 +7,7 @@ use lib.ListN.{length, getD, take, drop, replicate}
 use lib.Dec.{eqb}
 use Rattle.words.specs.declared.Kind.{Kind}
 use Rattle.words.specs.declared.Kind.the-variants.{Mere, Keep, Level, Place, Entries}
-use Rattle.words.specs.Words.{verbNames, longNames, shortNames, kinds, names, find, bodies}
+use Rattle.words.specs.Words.{verbNames, longNames, shortNames, kinds, names, bodies}
 
 -- a name in n bytes, with zeros after it
 abbrev pub padded : ℕ → List ℕ → List ℕ

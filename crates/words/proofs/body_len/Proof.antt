@@ -1,13 +1,8 @@
 -- `words::body_len` meets its contract.
-use mathlib.Core.Path.{_≡_, refl, sym, ap, _∙_}
-use Prim.Native.Nat.{ℕ, suc, _+_, _-_, _≤_, _<_}
-use native.Mathlib.Omega.{arith}
-use mathlib.Core.List.{List, []}
-use lib.ListN.{length, getD, take, drop}
-use lib.Seq.{sets}
-use borrow.Author.Tests.{eq-eqb, ne-eqb}
+use mathlib.Core.Path.{sym, ap, _∙_}
+use lib.ListN.{getD}
 use Rattle.words.specs.Tables.{known}
-use Rattle.words.specs.Words.{bodies, bodyOf}
+use Rattle.words.specs.Words.{bodies}
 use Rattle.words.specs.Rows.{bodyBytes, bodyAt}
 use Rattle.words.proofs.RowLaws.{body-out, body-at, body-is}
 use borrow.Author.Needs.{needs}

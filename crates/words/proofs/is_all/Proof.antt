@@ -1,6 +1,5 @@
 -- `words::is_all` meets its contract.
-use mathlib.Core.Path.{_≡_, refl, sym, ap, _∙_}
-use Rattle.text.specs.Bytes.{bytes, sameBytes}
+use Rattle.text.specs.Bytes.{bytes}
 use Rattle.words.specs.Words.{names, allName}
 use borrow.Author.Needs.{needs}
 use Rattle.words.proofs.is_all.Statement.{statement}

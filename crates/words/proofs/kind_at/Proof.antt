@@ -1,6 +1,5 @@
 -- `words::kind_at` meets its contract.
-use mathlib.Core.Path.{_≡_, refl, sym, ap, _∙_}
-use Prim.Native.Nat.{ℕ, zero, suc}
+use mathlib.Core.Path.{sym, ap}
 use Rattle.words.proofs.RowLaws.{kind-rest}
 use Rattle.words.specs.Rows.{kindAt}
 use Rattle.words.proofs.kind_at.Statement.{statement}

@@ -1,10 +1,8 @@
 -- `words::kind_of` meets its contract.
-use mathlib.Core.Path.{_≡_, refl, sym, ap, _∙_}
-use Rattle.text.specs.Bytes.{bytes, sameBytes}
-use Prim.Native.Nat.{ℕ, suc, _-_}
+use mathlib.Core.Path.{_≡_, sym, ap, _∙_}
+use Rattle.text.specs.Bytes.{bytes}
+use Prim.Native.Nat.{suc, _-_}
 use native.Mathlib.Omega.{arith}
-use lib.ListN.{List·getD-eq-default}
-use Rattle.words.specs.declared.Kind.the-variants.{Mere}
 use Rattle.words.specs.Words.{kinds, kindOf, longNames, shortNames}
 use Rattle.words.specs.Rows.{optionRows, rowsFor}
 use Rattle.words.proofs.RowLaws.{kind-out, row-kind}

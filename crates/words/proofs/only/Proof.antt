@@ -1,5 +1,4 @@
 -- `words::only` meets its contract.
-use mathlib.Core.Path.{_≡_, refl, sym, ap, _∙_}
 use borrow.Author.Needs.{needs}
 use Rattle.words.proofs.only.Statement.{statement}
 use Rattle.words.proofs.only.Tie as tie

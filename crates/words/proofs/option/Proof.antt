@@ -1,12 +1,10 @@
 -- `words::option` meets its contract. The loop invariant: the answer from row i on is the answer.
-use Prim.Native.Nat.{ℕ, suc, _+_, _-_, _≤_}
-use mathlib.Core.Path.{_≡_, refl, sym, ap, _∙_}
-use mathlib.Core.List.{List, []}
+use Prim.Native.Nat.{_+_, _-_, _≤_}
+use mathlib.Core.Path.{_≡_, sym, _∙_}
 use native.Mathlib.Omega.{arith}
-use lib.ListN.{length, getD, drop}
+use lib.ListN.{drop}
 use Rattle.words.specs.Words.{optionOf, longNames, shortNames, kinds}
-use Rattle.words.specs.Tables.{known}
-use Rattle.words.specs.Rows.{optionRows, rowsFor, findRow, rowNames}
+use Rattle.words.specs.Rows.{optionRows, rowsFor, findRow}
 use Rattle.words.proofs.RowLaws.{row-fits, find-options, row-hit, row-miss, row-none}
 use Rattle.text.specs.Bytes.{bytes}
 use Rattle.words.proofs.option.Statement.{statement}

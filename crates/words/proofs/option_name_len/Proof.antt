@@ -1,11 +1,10 @@
 -- `words::option_name_len` meets its contract.
-use mathlib.Core.Path.{_≡_, refl, sym, ap, _∙_}
-use Prim.Native.Nat.{ℕ, suc, _+_, _-_, _≤_, _<_}
+use mathlib.Core.Path.{sym, ap, _∙_}
+use Prim.Native.Nat.{_-_}
 use native.Mathlib.Omega.{arith}
-use mathlib.Core.List.{List, []}
-use lib.ListN.{length, getD, take, drop}
-use lib.Seq.{sets}
-use Rattle.text.specs.Bytes.{bytes, sameBytes}
+use mathlib.Core.List.{[]}
+use lib.ListN.{length, getD}
+use Rattle.text.specs.Bytes.{bytes}
 use Rattle.words.specs.Words.{longNames, shortNames, kinds, optionName}
 use Rattle.words.specs.Rows.{optionRows, rowsFor}
 use Rattle.words.proofs.RowLaws.{option-fits, option-name, option-none, option-out, row-length}

@@ -1,14 +1,14 @@
 -- `words::put_option_name` meets its contract.
-use mathlib.Core.Path.{_≡_, refl, sym, ap, _∙_}
-use Prim.Native.Nat.{ℕ, suc, _+_, _-_, _≤_, _<_}
+use mathlib.Core.Path.{_≡_, sym, ap, _∙_}
+use Prim.Native.Nat.{_-_}
 use native.Mathlib.Omega.{arith}
-use mathlib.Core.List.{List, []}
-use lib.ListN.{length, getD, take, drop}
+use mathlib.Core.List.{[]}
+use lib.ListN.{length}
 use lib.Seq.{sets}
-use Rattle.text.specs.Bytes.{bytes, sameBytes}
+use Rattle.text.specs.Bytes.{bytes}
 use Rattle.words.specs.Words.{longNames, shortNames, kinds, optionName}
 use Rattle.words.specs.Rows.{optionRows, rowsFor}
-use Rattle.words.proofs.RowLaws.{option-fits, option-name, option-none, option-out, row-length}
+use Rattle.words.proofs.RowLaws.{option-fits, option-name, option-none, option-out}
 use borrow.Author.Needs.{needs}
 use Rattle.words.proofs.put_option_name.Statement.{statement}
 use Rattle.words.proofs.put_option_name.Tie as tie

@@ -1,11 +1,9 @@
 -- `words::put_row` meets its contract.
-use mathlib.Core.Path.{_≡_, refl, sym, ap, _∙_}
-use Prim.Native.Nat.{ℕ, suc, _+_, _-_, _≤_, _<_}
+use mathlib.Core.Path.{_≡_, ap, _∙_}
+use Prim.Native.Nat.{ℕ, _+_, _-_}
 use native.Mathlib.Omega.{arith}
-use mathlib.Core.List.{List, []}
-use lib.ListN.{length, getD, take, drop}
+use lib.ListN.{getD, take, drop}
 use lib.Seq.{sets}
-use Rattle.words.specs.Rows.{rowName}
 use Rattle.words.proofs.RowLaws.{row-length}
 use borrow.Author.Needs.{needs}
 use Rattle.words.proofs.put_row.Statement.{statement}

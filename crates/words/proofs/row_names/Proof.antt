@@ -1,13 +1,10 @@
 -- `words::row_names` meets its contract.
-use mathlib.Core.Path.{_≡_, refl, sym, ap, _∙_}
+use mathlib.Core.Path.{_≡_, sym, ap, _∙_}
 use Prim.Native.Nat.{ℕ, _+_, _-_}
 use native.Mathlib.Omega.{arith}
 use lib.ListN.{getD, take, drop}
-use mathlib.Core.List.{List}
-use Rattle.text.specs.Bytes.{bytes, sameBytes}
-use Rattle.words.specs.Rows.{rowName, rowNames}
+use Rattle.text.specs.Bytes.{sameBytes}
 use Rattle.words.proofs.RowLaws.{row-short, row-no-short, row-long}
-use Rattle.text.proofs.Slices.{part-between}
 use borrow.Author.Needs.{needs}
 use Rattle.words.proofs.row_names.Statement.{statement}
 use Rattle.words.proofs.row_names.Tie as tie

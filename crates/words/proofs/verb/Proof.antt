@@ -1,6 +1,6 @@
 -- `words::verb` meets its contract.
-use mathlib.Core.Path.{_≡_, refl, sym, ap, _∙_}
-use Rattle.text.specs.Bytes.{bytes, sameBytes}
+use mathlib.Core.Path.{sym, ap, _∙_}
+use Rattle.text.specs.Bytes.{bytes}
 use Rattle.words.specs.Tables.{known}
 use Rattle.words.specs.Words.{verbNames, names, verbOf}
 use Rattle.words.specs.Rows.{findOf}

@@ -1,6 +1,6 @@
 -- `words::verb_of_four` meets its contract.
-use mathlib.Core.Path.{_≡_, refl, sym, ap, _∙_}
-use Rattle.text.specs.Bytes.{bytes, sameBytes}
+use mathlib.Core.Path.{sym, _∙_}
+use Rattle.text.specs.Bytes.{bytes}
 use Rattle.words.specs.Words.{verbNames, names}
 use Rattle.words.specs.Rows.{findOf}
 use borrow.Author.Needs.{needs}

@@ -1,0 +1,128 @@
+// Reads texts, one to a line, and writes for each its number as a verb and as an option, and whether it is `all` and
+// `SESSION`; then for each number from 0 to 255 its two names as written into room of 16 bytes, the kind of its argument
+// and its body's length.
+ghost use Prim.Native.Nat.{_≤_};
+ghost use lib.ListN.{length};
+use words::Kind;
+use words::Known;
+
+fn number(n: usize) {
+    io::print_decimal(1, n as u64);
+    io::write_all(1, b" ");
+}
+
+fn known(k: Known) {
+    match k {
+        Known::Is(n) => {
+            number(n as usize);
+        }
+        Known::Unknown => {
+            io::write_all(1, b"- ");
+        }
+    }
+}
+
+fn flag(b: bool) {
+    if b {
+        number(1);
+    } else {
+        number(0);
+    }
+}
+
+fn end() {
+    io::write_all(1, b"\n");
+}
+
+// What a text is.
+fn text(t: &[u8]) {
+    known(words::verb(t));
+    known(words::option(t));
+    flag(words::is_all(t));
+    flag(words::is_session(t));
+    end();
+}
+
+// How many bytes stand before the first LF, or in all.
+fn line_len(s: &[u8]) -> usize
+    ensures { λ r. ⌜ r ≤ length (now (s .entry)) ⌝ }
+{
+    let mut n: usize = 0;
+    while n < s.len() {
+        if s[n] == b'\n' {
+            return n;
+        }
+        n += 1;
+    }
+    n
+}
+
+fn texts(s: &[u8]) {
+    let mut at: usize = 0;
+    while at < s.len() {
+        let n = line_len(&s[at..]);
+        let e = at + n;
+        text(&s[at..e]);
+        at = e + 1;
+    }
+}
+
+fn kind(k: Kind) {
+    match k {
+        Kind::Mere => {
+            io::write_all(1, b"mere ");
+        }
+        Kind::Keep => {
+            io::write_all(1, b"keep ");
+        }
+        Kind::Level => {
+            io::write_all(1, b"level ");
+        }
+        Kind::Place => {
+            io::write_all(1, b"place ");
+        }
+        Kind::Entries => {
+            io::write_all(1, b"entries ");
+        }
+    }
+}
+
+// The two names of a number, at a place of the room.
+fn names(n: u8, at: usize) {
+    let mut v = [b'.'; 16];
+    number(words::verb_name_len(n));
+    number(words::put_verb_name(&mut v, at, n));
+    io::write_all(1, &v);
+    let mut o = [b'.'; 16];
+    io::write_all(1, b" ");
+    number(words::option_name_len(n));
+    number(words::put_option_name(&mut o, at, n));
+    io::write_all(1, &o);
+    end();
+}
+
+// What a number is.
+fn one(n: u8) {
+    number(n as usize);
+    kind(words::kind_of(n));
+    known(words::body_len(n));
+    end();
+    names(n, 0);
+    names(n, 10);
+}
+
+fn numbers() {
+    let mut n: u8 = 0;
+    while n < 255 {
+        one(n);
+        n += 1;
+    }
+    one(255);
+}
+
+fn main() {
+    let mut part = [0u8; 8192];
+    let got = io::read_full(0, &mut part);
+    texts(&part[..got]);
+    numbers();
+}
