@@ -1,3 +1,6 @@
 pub mod TermLaws
 pub mod ScanLaws
 pub mod Paper
+pub mod RowLaws
+pub mod Examples
+pub mod Only

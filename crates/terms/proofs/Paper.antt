@@ -13,14 +13,14 @@ use Rattle.terms.specs.declared.Mode.the-variants.{Out, OutGrave, In, In
 use Rattle.terms.specs.Signs.{Sign, bare, escaped, quote, quoted, quotedEscaped, twelve, two, escapable, pairSign, oneSign, openAfter, paperSigns, after, gives, atEnd, signs}
 
 -- a byte that is none of some is not one of them
-none-of : (ns : List ℕ) (k b : ℕ) → oneOf ns k ≡ true → oneOf ns b ≡ false → eqb b k ≡ false
+pub none-of : (ns : List ℕ) (k b : ℕ) → oneOf ns k ≡ true → oneOf ns b ≡ false → eqb b k ≡ false
 none-of ns k b e n = go (eqb b k) refl
   where
     go : (t : Bool) → eqb b k ≡ t → t ≡ false
     go true p = no-case (sym (ap (oneOf ns) (eqb-true b k p) ∙ e) ∙ n)
     go false p = refl
 
-twelve-grave : oneOf twelve 96 ≡ true
+pub twelve-grave : oneOf twelve 96 ≡ true
 unfolding oneOf twelve bytes
 twelve-grave = refl
 
@@ -28,7 +28,7 @@ twelve-mark : oneOf twelve 34 ≡ true
 unfolding oneOf twelve bytes
 twelve-mark = refl
 
-two-grave : oneOf two 96 ≡ true
+pub two-grave : oneOf two 96 ≡ true
 unfolding oneOf two bytes
 two-grave = refl
 

@@ -63,7 +63,7 @@ pend OutGrave = 1
 pend In = 0
 pend InGrave = 1
 
-gives-width : (m : Mode) (b : ℕ) → length (raws (gives m b)) + pend (after m b) ≡ pend m + 1
+pub gives-width : (m : Mode) (b : ℕ) → length (raws (gives m b)) + pend (after m b) ≡ pend m + 1
 unfolding gives after raws
 gives-width Out b = go (eqb b 96) (eqb b 34) refl refl
   where
@@ -279,7 +279,7 @@ held OutGrave = 96 ∷ []
 held In = []
 held InGrave = 96 ∷ []
 
-raws-append : (a b : List Sign) → raws (a ++ b) ≡ raws a ++ raws b
+pub raws-append : (a b : List Sign) → raws (a ++ b) ≡ raws a ++ raws b
 unfolding raws
 raws-append [] b = refl
 raws-append (x ∷ a) b = ap (λ z. raw x ++ z) (raws-append a b) ∙ sym (append-assoc (raw x) (raws a) (raws b))

@@ -4,3 +4,4 @@ pub mod Rows
 pub mod Scan
 pub mod Marks
 pub mod Going
+pub mod RowWords

@@ -1,0 +1,425 @@
+-- Each of rows 1 to 5 is given exactly when its row holds and no earlier one does, with its place; a line is fine exactly when none holds. Assumes nothing.
+use Prim.Native.Nat.{ℕ, zero, suc, _+_, _-_, _<_, _≤_}
+use mathlib.Core.Path.{_≡_, refl, sym, ap, _∙_, subst}
+use mathlib.Core.List.{List, [], _∷_, _++_}
+use mathlib.Core.Bool.{Bool, true, false, cond, not, _&&_}
+use native.Mathlib.Omega.{arith}
+use native.Mathlib.Decide.{decLt}
+use native.Mathlib.Nat.{add-zero}
+use lib.ListN.{length, getD, length-append}
+use lib.Dec.{eqb, ltb}
+use borrow.Author.Tests.{eqb-true, eqb-false, eq-eqb, ne-eqb, lt-ltb, le-ltb}
+use Rattle.text.specs.declared.Verdict.{Verdict}
+use Rattle.text.specs.declared.Verdict.the-variants.{Fine, Flawed}
+use Rattle.text.specs.Bytes.{bytes, oneOf, printable}
+use Rattle.text.specs.Lists.{allOf, runLen, walk}
+use Rattle.text.proofs.Basics.{no-case}
+use Rattle.text.proofs.Scans.{run-within, run-all, all-run}
+use Rattle.terms.specs.declared.Mode.{Mode}
+use Rattle.terms.specs.declared.Mode.the-variants.{Out, OutGrave, In, InGrave}
+use Rattle.terms.specs.Signs.{Sign, bare, escaped, quote, quoted, quotedEscaped, twelve, two, after, gives, atEnd, signs, raw, raws, paperSigns}
+use Rattle.terms.specs.Terms.{Term, termsOf}
+use Rattle.terms.specs.Rows.{orElse, longFlaw, oddFlaw, endMode, opens, openedAt, endFlaw, openFlaw, manyFrom, manyFlaw, lexicalOf}
+use Rattle.terms.specs.RowWords.{lineSigns, isLone, endsLone, turns, endsOpen, marked, lastMark, startOf, Row1, Row2, Row3, Row4, Row5, NoRow}
+use Rattle.terms.proofs.Paper.{none-of, twelve-grave, two-grave, as-the-paper-says}
+use Rattle.terms.proofs.TermLaws.{pend, gives-width}
+
+-- ---- row 2: the first byte that fails a test stands where the run of those that pass ends
+
+module _ (f : ℕ → Bool) where
+  run-fails : (s : List ℕ) → runLen f s < length s → f (getD s (runLen f s) 0) ≡ false
+  unfolding runLen
+  run-fails [] h = absurd (omega arith)
+  run-fails (b ∷ s) h = go (f b) refl h (run-fails s)
+    where
+      go : (t : Bool) → f b ≡ t → cond t (suc (runLen f s)) 0 < suc (length s) → (runLen f s < length s → f (getD s (runLen f s) 0) ≡ false)
+          → f (getD (b ∷ s) (cond t (suc (runLen f s)) 0) 0) ≡ false
+      go true p k ih = ih (omega arith)
+      go false p k ih = p
+
+  run-passes : (s : List ℕ) (i : ℕ) → i < runLen f s → f (getD s i 0) ≡ true
+  unfolding runLen
+  run-passes [] i h = absurd (omega arith)
+  run-passes (b ∷ s) i h = go (f b) refl i h (run-passes s)
+    where
+      go : (t : Bool) → f b ≡ t → (j : ℕ) → j < cond t (suc (runLen f s)) 0 → ((k : ℕ) → k < runLen f s → f (getD s k 0) ≡ true) → f (getD (b ∷ s) j 0) ≡ true
+      go true p zero k ih = p
+      go true p (suc j) k ih = ih j (omega arith)
+      go false p j k ih = absurd (omega arith)
+
+  first-run : (s : List ℕ) (p : ℕ) → p < length s → f (getD s p 0) ≡ false → ((i : ℕ) → i < p → f (getD s i 0) ≡ true) → runLen f s ≡ p
+  unfolding runLen
+  first-run [] p h e k = absurd (omega arith)
+  first-run (b ∷ s) zero h e k = rw e
+  first-run (b ∷ s) (suc p) h e k = rw (k 0 (omega arith)) (ap suc (first-run s p (omega arith) e (λ i g. k (suc i) (omega arith))))
+
+-- ---- rows 3 and 4: the mode at the line's end
+
+walk-over : {S A : Type 0} (f : S → A → S) (v : S) (a r : List A) → walk f v (a ++ r) ≡ walk f (walk f v a) r
+unfolding walk
+walk-over f v [] r = refl
+walk-over f v (x ∷ a) r = walk-over f (f v x) a r
+
+abbrev isGrave : Mode → Bool
+isGrave Out = false
+isGrave OutGrave = true
+isGrave In = false
+isGrave InGrave = true
+
+abbrev isIn : Mode → Bool
+isIn Out = false
+isIn OutGrave = false
+isIn In = true
+isIn InGrave = true
+
+abbrev lone : Bool → Sign → Bool
+lone last x = isLone x
+
+-- a byte gives no sign that ends as a lone GRAVE
+gives-no-lone : (m : Mode) (b : ℕ) → walk lone false (gives m b) ≡ false
+unfolding walk gives
+gives-no-lone Out b = go (eqb b 96) (eqb b 34) refl refl
+  where
+    go : (x y : Bool) → eqb b 96 ≡ x → eqb b 34 ≡ y → walk lone false (gives Out b) ≡ false
+    go true y p q = simp p
+    go false true p q = simp (p, q)
+    go false false p q = simp (p, q)
+gives-no-lone OutGrave b = go (oneOf twelve b) refl
+  where
+    go : (x : Bool) → oneOf twelve b ≡ x → walk lone false (gives OutGrave b) ≡ false
+    go true p = simp p
+    go false p = simp p (none-of twelve 96 b twelve-grave p)
+gives-no-lone In b = go (eqb b 96) (eqb b 34) refl refl
+  where
+    go : (x y : Bool) → eqb b 96 ≡ x → eqb b 34 ≡ y → walk lone false (gives In b) ≡ false
+    go true y p q = simp p
+    go false true p q = simp (p, q)
+    go false false p q = simp (p, q)
+gives-no-lone InGrave b = go (oneOf two b) refl
+  where
+    go : (x : Bool) → oneOf two b ≡ x → walk lone false (gives InGrave b) ≡ false
+    go true p = simp p
+    go false p = simp p (none-of two 96 b two-grave p)
+
+end-lone : (m : Mode) → walk lone false (atEnd m) ≡ isGrave m
+unfolding walk
+end-lone Out = refl
+end-lone OutGrave = refl
+end-lone In = refl
+end-lone InGrave = refl
+
+lone-mode : (m : Mode) (s : List ℕ) → walk lone false (signs m s) ≡ isGrave (endMode m s)
+unfolding signs endMode walk
+lone-mode m [] = end-lone m
+lone-mode m (b ∷ s) =
+    walk-over lone false (gives m b) (signs (after m b) s)
+    ∙ ap (λ (q : Bool). walk lone q (signs (after m b) s)) (gives-no-lone m b)
+    ∙ lone-mode (after m b) s
+
+gives-turns : (m : Mode) (b : ℕ) → walk turns (isIn m) (gives m b) ≡ isIn (after m b)
+unfolding walk gives after
+gives-turns Out b = go (eqb b 96) (eqb b 34) refl refl
+  where
+    go : (x y : Bool) → eqb b 96 ≡ x → eqb b 34 ≡ y → walk turns false (gives Out b) ≡ isIn (after Out b)
+    go true y p q = simp p
+    go false true p q = simp (p, q)
+    go false false p q = simp (p, q)
+gives-turns OutGrave b = go (oneOf twelve b) refl
+  where
+    go : (x : Bool) → oneOf twelve b ≡ x → walk turns false (gives OutGrave b) ≡ false
+    go true p = simp p
+    go false p = simp p
+gives-turns In b = go (eqb b 96) (eqb b 34) refl refl
+  where
+    go : (x y : Bool) → eqb b 96 ≡ x → eqb b 34 ≡ y → walk turns true (gives In b) ≡ isIn (after In b)
+    go true y p q = simp p
+    go false true p q = simp (p, q)
+    go false false p q = simp (p, q)
+gives-turns InGrave b = go (oneOf two b) refl
+  where
+    go : (x : Bool) → oneOf two b ≡ x → walk turns true (gives InGrave b) ≡ true
+    go true p = simp p
+    go false p = simp p
+
+end-turns : (m : Mode) → walk turns (isIn m) (atEnd m) ≡ isIn m
+unfolding walk
+end-turns Out = refl
+end-turns OutGrave = refl
+end-turns In = refl
+end-turns InGrave = refl
+
+open-mode : (m : Mode) (s : List ℕ) → walk turns (isIn m) (signs m s) ≡ isIn (endMode m s)
+unfolding signs endMode walk
+open-mode m [] = end-turns m
+open-mode m (b ∷ s) =
+    walk-over turns (isIn m) (gives m b) (signs (after m b) s)
+    ∙ ap (λ (q : Bool). walk turns q (signs (after m b) s)) (gives-turns m b)
+    ∙ open-mode (after m b) s
+
+pub lone-is : (line : List ℕ) → endsLone (lineSigns line) ≡ isGrave (endMode Out line)
+unfolding endsLone
+lone-is line = ap (λ (z : List Sign). walk lone false z) (sym (as-the-paper-says line)) ∙ lone-mode Out line
+
+pub open-is : (line : List ℕ) → endsOpen (lineSigns line) ≡ isIn (endMode Out line)
+unfolding endsOpen
+open-is line = ap (λ (z : List Sign). walk turns false z) (sym (as-the-paper-says line)) ∙ open-mode Out line
+
+-- ---- row 4's place: where a quote is open at the end, the last quote mark opened it
+
+mark-over : (i q : ℕ) (a r : List Sign) → lastMark i q (a ++ r) ≡ lastMark (i + length (raws a)) (lastMark i q a) r
+unfolding lastMark raws
+mark-over i q [] r = ap (λ (k : ℕ). lastMark k q r) (sym (add-zero i))
+mark-over i q (x ∷ a) r =
+    let n = length-append (raw x) (raws a) in
+    mark-over (i + length (raw x)) (marked x i q) a r ∙ ap (λ (k : ℕ). lastMark k (lastMark (i + length (raw x)) (marked x i q) a) r) (omega arith)
+
+-- j is the place of the next byte, i that of the sign that is not told yet
+mark-step : (m : Mode) (b i j q r : ℕ) → j ≡ i + pend m → (isIn m ≡ true → q ≡ r) → isIn (after m b) ≡ true → opens m b j q ≡ lastMark i r (gives m b)
+unfolding after gives lastMark
+mark-step Out b i j q r e h k = go (eqb b 96) (eqb b 34) refl refl
+  where
+    go : (x y : Bool) → eqb b 96 ≡ x → eqb b 34 ≡ y → cond (eqb b 34) j q ≡ lastMark i r (gives Out b)
+    go true y p t = no-case (sym (simp p at k))
+    go false true p t = simp (p, t) (omega arith)
+    go false false p t = no-case (sym (simp (p, t) at k))
+mark-step OutGrave b i j q r e h k = no-case (sym k)
+mark-step In b i j q r e h k = go (eqb b 96) (eqb b 34) refl refl
+  where
+    go : (x y : Bool) → eqb b 96 ≡ x → eqb b 34 ≡ y → q ≡ lastMark i r (gives In b)
+    go true y p t = simp p (h refl)
+    go false true p t = no-case (sym (simp (p, t) at k))
+    go false false p t = simp (p, t) (h refl)
+mark-step InGrave b i j q r e h k = go (oneOf two b) refl
+  where
+    go : (x : Bool) → oneOf two b ≡ x → q ≡ lastMark i r (gives InGrave b)
+    go true p = simp p (h refl)
+    go false p = simp p (h refl)
+
+end-mark : (m : Mode) (i r : ℕ) → lastMark i r (atEnd m) ≡ r
+unfolding lastMark
+end-mark Out i r = refl
+end-mark OutGrave i r = refl
+end-mark In i r = refl
+end-mark InGrave i r = refl
+
+mark-mode : (m : Mode) (s : List ℕ) (i j q r : ℕ) → j ≡ i + pend m → (isIn m ≡ true → q ≡ r) → isIn (endMode m s) ≡ true → openedAt m j q s ≡ lastMark i r (signs m s)
+unfolding openedAt signs endMode walk
+mark-mode m [] i j q r e h k = h k ∙ sym (end-mark m i r)
+mark-mode m (b ∷ s) i j q r e h k =
+    let w = gives-width m b in
+    mark-mode (after m b) s (i + length (raws (gives m b))) (j + 1) (opens m b j q) (lastMark i r (gives m b)) (omega arith) (mark-step m b i j q r e h) k
+    ∙ sym (mark-over i r (gives m b) (signs (after m b) s))
+
+mark-is : (line : List ℕ) → isIn (endMode Out line) ≡ true → openedAt Out 0 0 line ≡ lastMark 0 0 (lineSigns line)
+mark-is line k = mark-mode Out line 0 0 0 0 (omega arith) (λ e. refl) k ∙ ap (lastMark 0 0) (as-the-paper-says line)
+
+-- what stands at the line's end
+ends-lone : (m : Mode) (n q : ℕ) → isGrave m ≡ true → endFlaw m n q ≡ Flawed 3 (n - 1)
+ends-lone Out n q e = no-case (sym e)
+ends-lone OutGrave n q e = refl
+ends-lone In n q e = no-case (sym e)
+ends-lone InGrave n q e = refl
+
+ends-open : (m : Mode) (n q : ℕ) → isGrave m ≡ false → isIn m ≡ true → endFlaw m n q ≡ Flawed 4 q
+ends-open Out n q e f = no-case (sym f)
+ends-open OutGrave n q e f = no-case (sym f)
+ends-open In n q e f = refl
+ends-open InGrave n q e f = no-case e
+
+ends-well : (m : Mode) (n q : ℕ) → isGrave m ≡ false → isIn m ≡ false → endFlaw m n q ≡ Fine
+ends-well Out n q e f = refl
+ends-well OutGrave n q e f = no-case e
+ends-well In n q e f = no-case f
+ends-well InGrave n q e f = no-case f
+
+-- ---- row 5: k terms came before
+
+many-few : (k : ℕ) (ts : List Term) → k + length ts ≤ 64 → manyFrom k ts ≡ Fine
+unfolding manyFrom
+many-few k [] h = refl
+many-few k (t ∷ ts) h = rw (ne-eqb k 64 (λ z. omega arith)) (many-few (k + 1) ts (omega arith))
+
+many-over : (k : ℕ) (ts : List Term) → k ≤ 64 → 64 < k + length ts → manyFrom k ts ≡ Flawed 5 (startOf (64 - k) ts)
+unfolding manyFrom startOf
+many-over k [] h g = absurd (omega arith)
+many-over k (t ∷ ts) h g = go (eqb k 64) refl (λ z. many-over (k + 1) ts z (omega arith))
+  where
+    go : (x : Bool) → eqb k 64 ≡ x → (k + 1 ≤ 64 → manyFrom (k + 1) ts ≡ Flawed 5 (startOf (64 - (k + 1)) ts))
+        → cond (eqb k 64) (Flawed 5 (t .start)) (manyFrom (k + 1) ts) ≡ Flawed 5 (startOf (64 - k) (t ∷ ts))
+    go true p ih = let z = eqb-true k 64 p in let e : 64 - k ≡ 0 = omega arith in rw (p, e)
+    go false p ih =
+        let n = eqb-false k 64 p in
+        let e : 64 - k ≡ suc (64 - (k + 1)) = omega arith in
+        rw (p, e) (ih (omega arith))
+
+-- ---- EACH ROW GIVES ITS NUMBER AND ITS PLACE
+
+give-1 : (line : List ℕ) (p : ℕ) → Row1 line p → lexicalOf line ≡ Flawed 1 p
+unfolding lexicalOf longFlaw
+give-1 line p r = rw (lt-ltb 1024 (length line) (r .over), r .at)
+
+give-2 : (line : List ℕ) (p : ℕ) → Row2 line p → lexicalOf line ≡ Flawed 2 p
+unfolding lexicalOf longFlaw oddFlaw
+give-2 line p r =
+    let e : runLen printable line ≡ p = first-run printable line p (r .within) (r .odd) (r .first) in
+    rw (le-ltb 1024 (length line) (r .short), e, lt-ltb p (length line) (r .within))
+
+-- rows 1 and 2 passed
+clean-line : (line : List ℕ) → length line ≤ 1024 → allOf printable line ≡ true → lexicalOf line ≡ orElse (openFlaw line) (manyFlaw line)
+unfolding lexicalOf longFlaw oddFlaw
+clean-line line h e =
+    let n : runLen printable line ≡ length line = all-run printable line e in
+    rw (le-ltb 1024 (length line) h, n, le-ltb (length line) (length line) (omega arith))
+
+give-3 : (line : List ℕ) (p : ℕ) → Row3 line p → lexicalOf line ≡ Flawed 3 p
+unfolding openFlaw
+give-3 line p r =
+    clean-line line (r .short) (r .clean)
+    ∙ ap (λ (v : Verdict). orElse v (manyFlaw line)) (ends-lone (endMode Out line) (length line) (openedAt Out 0 0 line) (sym (lone-is line) ∙ r .lone))
+    ∙ ap (Flawed 3) (sym (r .at))
+
+give-4 : (line : List ℕ) (p : ℕ) → Row4 line p → lexicalOf line ≡ Flawed 4 p
+unfolding openFlaw
+give-4 line p r =
+    let k : isIn (endMode Out line) ≡ true = sym (open-is line) ∙ r .opened in
+    clean-line line (r .short) (r .clean)
+    ∙ ap (λ (v : Verdict). orElse v (manyFlaw line)) (ends-open (endMode Out line) (length line) (openedAt Out 0 0 line) (sym (lone-is line) ∙ r .paired) k)
+    ∙ ap (Flawed 4) (mark-is line k ∙ sym (r .at))
+
+-- rows 3 and 4 passed too
+closed-line : (line : List ℕ) → length line ≤ 1024 → allOf printable line ≡ true → endsLone (lineSigns line) ≡ false → endsOpen (lineSigns line) ≡ false
+    → lexicalOf line ≡ manyFrom 0 (termsOf line)
+unfolding openFlaw manyFlaw
+closed-line line h e f g =
+    clean-line line h e
+    ∙ ap (λ (v : Verdict). orElse v (manyFrom 0 (termsOf line))) (ends-well (endMode Out line) (length line) (openedAt Out 0 0 line) (sym (lone-is line) ∙ f) (sym (open-is line) ∙ g))
+
+give-5 : (line : List ℕ) (p : ℕ) → Row5 line p → lexicalOf line ≡ Flawed 5 p
+give-5 line p r =
+    let m = r .many in
+    closed-line line (r .short) (r .clean) (r .paired) (r .closed)
+    ∙ many-over 0 (termsOf line) (omega arith) (omega arith)
+    ∙ ap (Flawed 5) (sym (r .at))
+
+give-fine : (line : List ℕ) → NoRow line → lexicalOf line ≡ Fine
+give-fine line r = let f = r .few in closed-line line (r .short) (r .clean) (r .paired) (r .closed) ∙ many-few 0 (termsOf line) (omega arith)
+
+-- ---- ONE OF THEM HOLDS
+
+pub data Case (line : List ℕ) : Type 0 where
+  is1 : Row1 line 1024 → Case line
+  is2 : Row2 line (runLen printable line) → Case line
+  is3 : Row3 line (length line - 1) → Case line
+  is4 : Row4 line (lastMark 0 0 (lineSigns line)) → Case line
+  is5 : Row5 line (startOf 64 (termsOf line)) → Case line
+  isFine : NoRow line → Case line
+
+pub judged : (line : List ℕ) → Case line
+judged line = by (decLt 1024 (length line)) (decLt (runLen printable line) (length line)) (endsLone (lineSigns line)) (endsOpen (lineSigns line)) (decLt 64 (length (termsOf line))) refl refl
+  where
+    all : (runLen printable line < length line → ⊥) → allOf printable line ≡ true
+    all h = let w = run-within printable line in run-all printable line (omega arith)
+
+    by : Dec (1024 < length line) → Dec (runLen printable line < length line) → (x y : Bool) → Dec (64 < length (termsOf line)) → endsLone (lineSigns line) ≡ x → endsOpen (lineSigns line) ≡ y
+        → Case line
+    by (yes a) b x y c p q = is1 (record { over = a; at = refl })
+    by (no a) (yes b) x y c p q = is2 (record { short = omega arith; within = b; odd = run-fails printable line b; first = run-passes printable line })
+    by (no a) (no b) true y c p q = is3 (record { short = omega arith; clean = all b; lone = p; at = refl })
+    by (no a) (no b) false true c p q = is4 (record { short = omega arith; clean = all b; paired = p; opened = q; at = refl })
+    by (no a) (no b) false false (yes c) p q = is5 (record { short = omega arith; clean = all b; paired = p; closed = q; many = c; at = refl })
+    by (no a) (no b) false false (no c) p q = isFine (record { short = omega arith; clean = all b; paired = p; closed = q; few = omega arith })
+
+-- ---- EACH ROW IS GIVEN EXACTLY WHEN IT HOLDS AND NO EARLIER ONE DOES
+
+clash : {P : Type 0} (n m q p : ℕ) → (n ≡ m → ⊥) → Flawed n q ≡ Flawed m p → P
+clash n m q p h e = absurd (h cc)
+
+flawed-fine : {P : Type 0} (n p : ℕ) → Flawed n p ≡ Fine → P
+flawed-fine n p e = absurd (let z : _≡_ {A = ℕ} 0 1 = cc in omega arith)
+
+same-place : (n q p : ℕ) → Flawed n q ≡ Flawed n p → q ≡ p
+same-place n q p e = cc
+
+only-1 : (line : List ℕ) (p : ℕ) → lexicalOf line ≡ Flawed 1 p → Row1 line p
+only-1 line p e = go (judged line)
+  where
+    go : Case line → Row1 line p
+    go (is1 r) = subst (λ (q : ℕ). Row1 line q) (same-place 1 1024 p (sym (give-1 line 1024 r) ∙ e)) r
+    go (is2 r) = clash 2 1 (runLen printable line) p (λ z. omega arith) (sym (give-2 line (runLen printable line) r) ∙ e)
+    go (is3 r) = clash 3 1 (length line - 1) p (λ z. omega arith) (sym (give-3 line (length line - 1) r) ∙ e)
+    go (is4 r) = clash 4 1 (lastMark 0 0 (lineSigns line)) p (λ z. omega arith) (sym (give-4 line (lastMark 0 0 (lineSigns line)) r) ∙ e)
+    go (is5 r) = clash 5 1 (startOf 64 (termsOf line)) p (λ z. omega arith) (sym (give-5 line (startOf 64 (termsOf line)) r) ∙ e)
+    go (isFine r) = flawed-fine 1 p (sym (sym (give-fine line r) ∙ e))
+
+only-2 : (line : List ℕ) (p : ℕ) → lexicalOf line ≡ Flawed 2 p → Row2 line p
+only-2 line p e = go (judged line)
+  where
+    go : Case line → Row2 line p
+    go (is1 r) = clash 1 2 1024 p (λ z. omega arith) (sym (give-1 line 1024 r) ∙ e)
+    go (is2 r) = subst (λ (q : ℕ). Row2 line q) (same-place 2 (runLen printable line) p (sym (give-2 line (runLen printable line) r) ∙ e)) r
+    go (is3 r) = clash 3 2 (length line - 1) p (λ z. omega arith) (sym (give-3 line (length line - 1) r) ∙ e)
+    go (is4 r) = clash 4 2 (lastMark 0 0 (lineSigns line)) p (λ z. omega arith) (sym (give-4 line (lastMark 0 0 (lineSigns line)) r) ∙ e)
+    go (is5 r) = clash 5 2 (startOf 64 (termsOf line)) p (λ z. omega arith) (sym (give-5 line (startOf 64 (termsOf line)) r) ∙ e)
+    go (isFine r) = flawed-fine 2 p (sym (sym (give-fine line r) ∙ e))
+
+only-3 : (line : List ℕ) (p : ℕ) → lexicalOf line ≡ Flawed 3 p → Row3 line p
+only-3 line p e = go (judged line)
+  where
+    go : Case line → Row3 line p
+    go (is1 r) = clash 1 3 1024 p (λ z. omega arith) (sym (give-1 line 1024 r) ∙ e)
+    go (is2 r) = clash 2 3 (runLen printable line) p (λ z. omega arith) (sym (give-2 line (runLen printable line) r) ∙ e)
+    go (is3 r) = subst (λ (q : ℕ). Row3 line q) (same-place 3 (length line - 1) p (sym (give-3 line (length line - 1) r) ∙ e)) r
+    go (is4 r) = clash 4 3 (lastMark 0 0 (lineSigns line)) p (λ z. omega arith) (sym (give-4 line (lastMark 0 0 (lineSigns line)) r) ∙ e)
+    go (is5 r) = clash 5 3 (startOf 64 (termsOf line)) p (λ z. omega arith) (sym (give-5 line (startOf 64 (termsOf line)) r) ∙ e)
+    go (isFine r) = flawed-fine 3 p (sym (sym (give-fine line r) ∙ e))
+
+only-4 : (line : List ℕ) (p : ℕ) → lexicalOf line ≡ Flawed 4 p → Row4 line p
+only-4 line p e = go (judged line)
+  where
+    go : Case line → Row4 line p
+    go (is1 r) = clash 1 4 1024 p (λ z. omega arith) (sym (give-1 line 1024 r) ∙ e)
+    go (is2 r) = clash 2 4 (runLen printable line) p (λ z. omega arith) (sym (give-2 line (runLen printable line) r) ∙ e)
+    go (is3 r) = clash 3 4 (length line - 1) p (λ z. omega arith) (sym (give-3 line (length line - 1) r) ∙ e)
+    go (is4 r) = subst (λ (q : ℕ). Row4 line q) (same-place 4 (lastMark 0 0 (lineSigns line)) p (sym (give-4 line (lastMark 0 0 (lineSigns line)) r) ∙ e)) r
+    go (is5 r) = clash 5 4 (startOf 64 (termsOf line)) p (λ z. omega arith) (sym (give-5 line (startOf 64 (termsOf line)) r) ∙ e)
+    go (isFine r) = flawed-fine 4 p (sym (sym (give-fine line r) ∙ e))
+
+only-5 : (line : List ℕ) (p : ℕ) → lexicalOf line ≡ Flawed 5 p → Row5 line p
+only-5 line p e = go (judged line)
+  where
+    go : Case line → Row5 line p
+    go (is1 r) = clash 1 5 1024 p (λ z. omega arith) (sym (give-1 line 1024 r) ∙ e)
+    go (is2 r) = clash 2 5 (runLen printable line) p (λ z. omega arith) (sym (give-2 line (runLen printable line) r) ∙ e)
+    go (is3 r) = clash 3 5 (length line - 1) p (λ z. omega arith) (sym (give-3 line (length line - 1) r) ∙ e)
+    go (is4 r) = clash 4 5 (lastMark 0 0 (lineSigns line)) p (λ z. omega arith) (sym (give-4 line (lastMark 0 0 (lineSigns line)) r) ∙ e)
+    go (is5 r) = subst (λ (q : ℕ). Row5 line q) (same-place 5 (startOf 64 (termsOf line)) p (sym (give-5 line (startOf 64 (termsOf line)) r) ∙ e)) r
+    go (isFine r) = flawed-fine 5 p (sym (sym (give-fine line r) ∙ e))
+
+only-fine : (line : List ℕ) → lexicalOf line ≡ Fine → NoRow line
+only-fine line e = go (judged line)
+  where
+    go : Case line → NoRow line
+    go (is1 r) = flawed-fine 1 1024 (sym (give-1 line 1024 r) ∙ e)
+    go (is2 r) = flawed-fine 2 (runLen printable line) (sym (give-2 line (runLen printable line) r) ∙ e)
+    go (is3 r) = flawed-fine 3 (length line - 1) (sym (give-3 line (length line - 1) r) ∙ e)
+    go (is4 r) = flawed-fine 4 (lastMark 0 0 (lineSigns line)) (sym (give-4 line (lastMark 0 0 (lineSigns line)) r) ∙ e)
+    go (is5 r) = flawed-fine 5 (startOf 64 (termsOf line)) (sym (give-5 line (startOf 64 (termsOf line)) r) ∙ e)
+    go (isFine r) = r
+
+pub row-1 : (line : List ℕ) (p : ℕ) → (Row1 line p → lexicalOf line ≡ Flawed 1 p) × (lexicalOf line ≡ Flawed 1 p → Row1 line p)
+row-1 line p = (give-1 line p, only-1 line p)
+
+pub row-2 : (line : List ℕ) (p : ℕ) → (Row2 line p → lexicalOf line ≡ Flawed 2 p) × (lexicalOf line ≡ Flawed 2 p → Row2 line p)
+row-2 line p = (give-2 line p, only-2 line p)
+
+pub row-3 : (line : List ℕ) (p : ℕ) → (Row3 line p → lexicalOf line ≡ Flawed 3 p) × (lexicalOf line ≡ Flawed 3 p → Row3 line p)
+row-3 line p = (give-3 line p, only-3 line p)
+
+pub row-4 : (line : List ℕ) (p : ℕ) → (Row4 line p → lexicalOf line ≡ Flawed 4 p) × (lexicalOf line ≡ Flawed 4 p → Row4 line p)
+row-4 line p = (give-4 line p, only-4 line p)
+
+pub row-5 : (line : List ℕ) (p : ℕ) → (Row5 line p → lexicalOf line ≡ Flawed 5 p) × (lexicalOf line ≡ Flawed 5 p → Row5 line p)
+row-5 line p = (give-5 line p, only-5 line p)
+
+pub no-row : (line : List ℕ) → (NoRow line → lexicalOf line ≡ Fine) × (lexicalOf line ≡ Fine → NoRow line)
+no-row line = (give-fine line, only-fine line)
