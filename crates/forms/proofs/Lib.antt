@@ -1,2 +1,5 @@
 pub mod Lists
 pub mod SegmentLaws
+pub mod TextLaws
+pub mod ValueLaws
+pub mod PropertyLaws

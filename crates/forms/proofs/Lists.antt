@@ -4,10 +4,13 @@ use mathlib.Core.Path.{_≡_, refl, sym, ap, _∙_}
 use mathlib.Core.List.{List, [], _∷_, _++_}
 use mathlib.Core.Bool.{Bool, true, false, cond, not, _&&_, _||_}
 use native.Mathlib.Omega.{arith}
-use lib.ListN.{length, getD, take, drop, drop-of-length-le}
+use lib.ListN.{length, getD, take, drop, drop-of-length-le, length-take, length-drop}
+use lib.Seq.{getD-take}
+use lib.Dec.{eqb}
+use borrow.Author.Tests.{eq-eqb, ne-eqb}
 use Rattle.text.specs.Lists.{anyOf, upTo, isNil}
 use Rattle.text.proofs.Basics.{no-case}
-use Rattle.text.proofs.Scans.{step-of}
+use Rattle.text.proofs.Scans.{step-of, drop-step}
 
 module _ {A : Type 0} (f : A → Bool) where
   -- it is the front of its list
@@ -68,3 +71,19 @@ module _ {A : Type 0} (f : A → Bool) (l : List A) (i : ℕ) where
 pub empty-at : (l : List ℕ) → length l ≡ 0 → getD l 0 0 ≡ 0
 empty-at [] h = refl
 empty-at (x ∷ l) h = absurd (omega arith)
+
+-- the first n of a list, from a place on
+pub taken-step : (s : List ℕ) (n i : ℕ) → i < length (take n s) → drop i (take n s) ≡ getD s i 0 ∷ drop (i + 1) (take n s)
+taken-step s n i h =
+    drop-step (take n s) i h ∙ ap (λ (b : ℕ). b ∷ drop (i + 1) (take n s)) (getD-take n s i 0 (let l = length-take n s in omega arith))
+
+pub taken-within : (s : List ℕ) (n i : ℕ) → i < length (take n s) → i < length s
+taken-within s n i h = let l = length-take n s in omega arith
+
+-- nothing is left of a list after its last
+pub last-one : (t : List ℕ) (i : ℕ) → i < length t → isNil (drop (i + 1) t) ≡ eqb (i + 1) (length t)
+last-one t i h = go (drop (i + 1) t) (length-drop (i + 1) t)
+  where
+    go : (r : List ℕ) → length r ≡ length t - (i + 1) → isNil r ≡ eqb (i + 1) (length t)
+    go [] e = sym (eq-eqb (i + 1) (length t) (omega arith))
+    go (x ∷ r) e = sym (ne-eqb (i + 1) (length t) (λ z. omega arith))

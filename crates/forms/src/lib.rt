@@ -1,15 +1,27 @@
 // The forms of a command's parts.
 ghost use mathlib.Core.Path.{_≡_};
-ghost use Prim.Native.Nat.{_≤_};
-ghost use lib.ListN.{length, drop, getD};
-ghost use lib.Dec.{eqb};
+ghost use Prim.Native.Nat.{suc, _<_, _≤_};
+ghost use mathlib.Core.Bool.{false, _&&_};
+ghost use lib.ListN.{length, take, drop, getD};
+ghost use lib.Dec.{eqb, leb};
+ghost use Rattle.terms.specs.declared.Mode.the-variants.{Out, OutGrave, In, InGrave};
+ghost use Rattle.terms.specs.Signs.{bare, escaped, quote, quoted, gives, signs};
+ghost use Rattle.forms.specs.Forms.{isName, isKeep, isLevel, isPlainSign, isText, isList};
 ghost use Rattle.forms.specs.Targets.{isSeparator, isTagLen, segmentOf, segmentsOf};
-ghost use Rattle.forms.specs.Answers.{pieceOf, segmentText, segmentAt, whereOf, targetIn};
-ghost use Rattle.forms.specs.Steps.{numberOf, afterTag, isInner, isLast};
+ghost use Rattle.forms.specs.Automata.{textStep, whole, textOver, textEnd, isComma, opened, entryLen};
+ghost use Rattle.forms.specs.Answers.{pieceOf, segmentText, segmentAt, whereOf, targetIn, isValueIn, propertyIn, topicIn, areEntriesIn};
+ghost use Rattle.forms.specs.Steps.{numberOf, afterTag, isInner, isLast, bareAt, nextItem, listStep, itemsAfter, endsItem, itemLen, nameLen, equalAt, shapeIf, isEntryIn};
+use terms::Mode;
+use terms::is_twelve;
+use terms::is_two;
+use terms::step;
 use text::Number;
 use text::decimal;
+use text::is_letter;
 use text::letters_len;
 use text::same;
+use text::words_len;
+use words::is_all;
 use words::is_session;
 
 // Where a pass over a quoted string or a plain text stands.
@@ -225,4 +237,279 @@ pub fn target_of(t: &[u8]) -> Where
         };
     }
     path_at(t, 1, true)
+}
+
+// Where the text ends that is the first n bytes of s.
+fn end_of(s: &[u8], n: usize) -> usize
+    ensures { λ r. ⌜ r ≡ length (take n (now (s .entry))) ⌝ }
+{
+    if n < s.len() {
+        return n;
+    }
+    s.len()
+}
+
+// A bare byte that may stand in a plain value.
+fn is_plain(b: u8) -> bool
+    ensures { λ r. ⌜ r ≡ isPlainSign (bare b) ⌝ }
+{
+    match b {
+        b'"' => false,
+        b',' => false,
+        b'(' => false,
+        b')' => false,
+        b'=' => false,
+        _ => true,
+    }
+}
+
+// What each kind of sign leads to.
+fn on_bare(q: At, b: u8) -> At
+    ensures { λ r. ⌜ r ≡ textStep q (bare b) ⌝ }
+{
+    let p = is_plain(b);
+    match q {
+        At::Start => {
+            if p {
+                return At::Plain;
+            }
+            At::Dead
+        }
+        At::Plain => {
+            if p {
+                return At::Plain;
+            }
+            At::Dead
+        }
+        At::Inside => At::Dead,
+        At::Ended => At::Dead,
+        At::Dead => At::Dead,
+    }
+}
+
+fn on_escaped(q: At, b: u8) -> At
+    ensures { λ r. ⌜ r ≡ textStep q (escaped b) ⌝ }
+{
+    match q {
+        At::Start => At::Plain,
+        At::Plain => At::Plain,
+        At::Inside => At::Dead,
+        At::Ended => At::Dead,
+        At::Dead => At::Dead,
+    }
+}
+
+fn on_quote(q: At) -> At
+    ensures { λ r. ⌜ r ≡ textStep q quote ⌝ }
+{
+    match q {
+        At::Start => At::Inside,
+        At::Plain => At::Dead,
+        At::Inside => At::Ended,
+        At::Ended => At::Dead,
+        At::Dead => At::Dead,
+    }
+}
+
+fn on_quoted(q: At, b: u8) -> At
+    ensures { λ r. ⌜ r ≡ textStep q (quoted b) ⌝ }
+{
+    match q {
+        At::Start => At::Dead,
+        At::Plain => At::Dead,
+        At::Inside => At::Inside,
+        At::Ended => At::Dead,
+        At::Dead => At::Dead,
+    }
+}
+
+// What a byte leads to in each mode: it gives no sign, one or two.
+fn at_out(q: At, b: u8) -> At
+    ensures { λ r. ⌜ r ≡ textOver q (gives Out b) ⌝ }
+{
+    if b == b'`' {
+        return q;
+    }
+    if b == b'"' {
+        return on_quote(q);
+    }
+    on_bare(q, b)
+}
+
+fn at_out_grave(q: At, b: u8) -> At
+    ensures { λ r. ⌜ r ≡ textOver q (gives OutGrave b) ⌝ }
+{
+    if is_twelve(b) {
+        return on_escaped(q, b);
+    }
+    let p = on_bare(q, b'`');
+    on_bare(p, b)
+}
+
+fn at_in(q: At, b: u8) -> At
+    ensures { λ r. ⌜ r ≡ textOver q (gives In b) ⌝ }
+{
+    if b == b'`' {
+        return q;
+    }
+    if b == b'"' {
+        return on_quote(q);
+    }
+    on_quoted(q, b)
+}
+
+fn at_in_grave(q: At, b: u8) -> At
+    ensures { λ r. ⌜ r ≡ textOver q (gives InGrave b) ⌝ }
+{
+    if is_two(b) {
+        return on_quoted(q, b);
+    }
+    let p = on_quoted(q, b'`');
+    on_quoted(p, b)
+}
+
+fn at_step(q: At, m: Mode, b: u8) -> At
+    ensures { λ r. ⌜ r ≡ textOver q (gives m b) ⌝ }
+{
+    match m {
+        Mode::Out => at_out(q, b),
+        Mode::OutGrave => at_out_grave(q, b),
+        Mode::In => at_in(q, b),
+        Mode::InGrave => at_in_grave(q, b),
+    }
+}
+
+fn is_whole(q: At) -> bool
+    ensures { λ r. ⌜ r ≡ whole q ⌝ }
+{
+    match q {
+        At::Start => false,
+        At::Plain => true,
+        At::Inside => false,
+        At::Ended => true,
+        At::Dead => false,
+    }
+}
+
+// The text's end: a GRAVE may wait.
+fn at_end(q: At, m: Mode) -> bool
+    ensures { λ r. ⌜ r ≡ textEnd q m ⌝ }
+{
+    match m {
+        Mode::Out => is_whole(q),
+        Mode::OutGrave => {
+            let p = on_bare(q, b'`');
+            is_whole(p)
+        }
+        Mode::In => is_whole(q),
+        Mode::InGrave => {
+            let p = on_quoted(q, b'`');
+            is_whole(p)
+        }
+    }
+}
+
+// Are the first n bytes of s a quoted string, or plain?
+pub fn is_text(s: &[u8], n: usize) -> bool
+    ensures { λ r. ⌜ r ≡ isText (signs Out (take n (now (s .entry)))) ⌝ }
+{
+    let end = end_of(s, n);
+    let mut i: usize = 0;
+    let mut m = Mode::Out;
+    let mut q = At::Start;
+    while i < end {
+        let b = s[i];
+        q = at_step(q, m, b);
+        m = step(m, b);
+        i += 1;
+    }
+    at_end(q, m)
+}
+
+// Is a byte this one, bare? Of a byte that GRAVE can escape.
+fn is_bare(m: Mode, b: u8, k: u8) -> bool
+    ensures { λ r. ⌜ r ≡ bareAt k m b ⌝ }
+{
+    match m {
+        Mode::Out => b == k,
+        Mode::OutGrave => false,
+        Mode::In => false,
+        Mode::InGrave => false,
+    }
+}
+
+fn next_item(q: At) -> At
+    ensures { λ r. ⌜ r ≡ nextItem q ⌝ }
+{
+    if is_whole(q) {
+        return At::Start;
+    }
+    At::Dead
+}
+
+fn list_step(q: At, m: Mode, b: u8) -> At
+    ensures { λ r. ⌜ r ≡ listStep q m b ⌝ }
+{
+    if is_bare(m, b, b',') {
+        return next_item(q);
+    }
+    at_step(q, m, b)
+}
+
+fn items_after(k: usize, m: Mode, b: u8) -> usize
+    requires { ⌜ k < 18446744073709551615 ⌝ }
+    ensures { λ r. ⌜ r ≡ itemsAfter k m b ⌝ }
+{
+    if is_bare(m, b, b',') {
+        return k + 1;
+    }
+    k
+}
+
+// The closing parenthesis after k items and the last one.
+fn closes(q: At, k: usize, last: bool) -> bool
+    ensures { λ r. ⌜ r ≡ whole q && (leb (suc k) 16 && last) ⌝ }
+{
+    if !is_whole(q) {
+        return false;
+    }
+    if 16 <= k {
+        return false;
+    }
+    last
+}
+
+// Are the first n bytes of s what follows the opening parenthesis of a list?
+pub fn is_list(s: &[u8], n: usize) -> bool
+    ensures { λ r. ⌜ r ≡ isList (signs Out (take n (now (s .entry)))) ⌝ }
+{
+    let end = end_of(s, n);
+    let mut i: usize = 0;
+    let mut k: usize = 0;
+    let mut m = Mode::Out;
+    let mut q = At::Start;
+    while i < end {
+        let b = s[i];
+        if is_bare(m, b, b')') {
+            return closes(q, k, i + 1 == end);
+        }
+        q = list_step(q, m, b);
+        k = items_after(k, m, b);
+        m = step(m, b);
+        i += 1;
+    }
+    false
+}
+
+// Are the first n bytes of s a value?
+pub fn is_value(s: &[u8], n: usize) -> bool
+    ensures { λ r. ⌜ r ≡ isValueIn (now (s .entry)) n ⌝ }
+{
+    if end_of(s, n) == 0 {
+        return false;
+    }
+    if s[0] == b'(' {
+        return is_list(&s[1..], n - 1);
+    }
+    is_text(s, n)
 }

@@ -1,0 +1,35 @@
+-- `forms::is_bare` meets its contract. Assumes nothing.
+use borrow.Author.Needs.{needs}
+use Rattle.forms.proofs.is_bare.Statement.{statement}
+use Rattle.forms.proofs.is_bare.Tie as tie
+use Rattle.forms.proofs.is_bare.Reads as reads
+use Rattle.forms.proofs.is_bare.Lts as lts
+
+enum-told : tie.Need-enum-told
+enum-told c = search needs
+
+enum-told-2 : tie.Need-enum-told-2
+enum-told-2 c = search needs
+
+enum-told-3 : tie.Need-enum-told-3
+enum-told-3 c = search needs
+
+enum-told-4 : tie.Need-enum-told-4
+enum-told-4 c = search needs
+
+returns : tie.Need-returns
+returns c = rw (c .enum-told .given .1)
+
+returns-2 : tie.Need-returns-2
+returns-2 c = search needs
+
+returns-3 : tie.Need-returns-3
+returns-3 c = search needs
+
+returns-4 : tie.Need-returns-4
+returns-4 c = search needs
+
+pub is-bare-spec : {M : Type 1} → statement M
+is-bare-spec =
+    tie.close
+    (tie.spec enum-told enum-told-2 enum-told-3 enum-told-4 returns returns-2 returns-3 returns-4)

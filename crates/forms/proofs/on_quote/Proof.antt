@@ -1,0 +1,53 @@
+-- `forms::on_quote` meets its contract. Assumes nothing.
+use borrow.Author.Needs.{needs}
+use Rattle.forms.specs.Forms.{isPlainSign}
+use Rattle.forms.proofs.on_quote.Statement.{statement}
+use Rattle.forms.proofs.on_quote.Tie as tie
+use Rattle.forms.proofs.on_quote.Reads as reads
+use Rattle.forms.proofs.on_quote.Lts as lts
+
+enum-told : tie.Need-enum-told
+enum-told c = search needs
+
+enum-told-2 : tie.Need-enum-told-2
+enum-told-2 c = search needs
+
+enum-told-3 : tie.Need-enum-told-3
+enum-told-3 c = search needs
+
+enum-told-4 : tie.Need-enum-told-4
+enum-told-4 c = search needs
+
+enum-told-5 : tie.Need-enum-told-5
+enum-told-5 c = search needs
+
+returns : tie.Need-returns
+returns c = search needs
+
+returns-2 : tie.Need-returns-2
+unfolding isPlainSign
+returns-2 c = rw (c .enum-told2 .given .1)
+
+returns-3 : tie.Need-returns-3
+returns-3 c = search needs
+
+returns-4 : tie.Need-returns-4
+returns-4 c = search needs
+
+returns-5 : tie.Need-returns-5
+returns-5 c = search needs
+
+pub on-quote-spec : {M : Type 1} → statement M
+on-quote-spec =
+    tie.close
+    (tie.spec
+    enum-told
+    enum-told-2
+    enum-told-3
+    enum-told-4
+    enum-told-5
+    returns
+    returns-2
+    returns-3
+    returns-4
+    returns-5)
