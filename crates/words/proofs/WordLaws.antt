@@ -118,7 +118,8 @@ unfolding verbName
 verb-at i = refl
 
 -- the names are not empty, of lower case letters, and at most 7 bytes long
-pub verb-shape : (k : ℕ) → 1 ≤ k → k ≤ 13 → (isNil (verbName k) ≡ false) × (allOf isLower (verbName k) ≡ true) × (allOf isWord (verbName k) ≡ true) × (length (verbName k) ≤ 7)
+pub verb-shape : (k : ℕ) → 1 ≤ k → k ≤ 13
+    → (isNil (verbName k) ≡ false) × (allOf isLower (verbName k) ≡ true) × (allOf isWord (verbName k) ≡ true) × (length (verbName k) ≤ 7)
 verb-shape zero a b = absurd (omega arith)
 verb-shape (suc i) a b = shape-says 7 (verbName (suc i)) (ap (shape 7) (verb-at i) ∙ all-at (shape 7) verbNames [] verbs-shape i (omega (arith, verbs-many)))
 

@@ -98,6 +98,7 @@ pub fn verb(t: &[u8]) -> Known
     }
 }
 
+// A number, if the text is its name.
 fn only(t: &[u8], name: &[u8], number: u8) -> Known
     ensures { λ r. ⌜ r ≡ known (cond (sameBytes (now (t .entry)) (now (name .entry))) (some number) none) ⌝ }
 {
@@ -107,6 +108,7 @@ fn only(t: &[u8], name: &[u8], number: u8) -> Known
     Known::Unknown
 }
 
+// The verbs of four bytes, of five, of six.
 fn verb_of_four(t: &[u8]) -> Known
     ensures { λ r. ⌜ r ≡ known (findOf 4 1 verbNames (now (t .entry))) ⌝ }
 {
@@ -146,12 +148,14 @@ fn verb_of_six(t: &[u8]) -> Known
     only(t, b"delete", 3)
 }
 
+// Whether a text is the target `SESSION`.
 pub fn is_session(t: &[u8]) -> bool
     ensures { λ r. ⌜ r ≡ sameBytes (now (t .entry)) sessionName ⌝ }
 {
     text::same(t, b"SESSION")
 }
 
+// Whether a text is a level's `all`.
 pub fn is_all(t: &[u8]) -> bool
     ensures { λ r. ⌜ r ≡ names allName (now (t .entry)) ⌝ }
 {
@@ -202,6 +206,7 @@ pub fn kind_of(n: u8) -> Kind
     kind_at(OPTIONS[i][13])
 }
 
+// The form that a row's number stands for.
 fn kind_at(n: u8) -> Kind
     ensures { λ r. ⌜ r ≡ kindAt n ⌝ }
 {

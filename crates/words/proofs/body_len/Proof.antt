@@ -23,7 +23,9 @@ returns-2 c = let k = c .before .before .args .kind in ap known (sym (ap bodyAt 
 
 returns-3 : tie.Need-returns-3
 unfolding bodyBytes bodies
-returns-3 c = let k = c .before .before .args .kind in ap known (body-is (getD bodyBytes k 0) (c .if2 .left) ∙ body-at k (c .before .if1 .left))
+returns-3 c =
+    let k = c .before .before .args .kind in
+    ap known (body-is (getD bodyBytes k 0) (c .if2 .left) ∙ body-at k (c .before .if1 .left))
 
 pub body-len-spec : {M : Type 1} → statement M
 body-len-spec = tie.close (tie.spec returns array-read-n returns-2 returns-3)

@@ -24,7 +24,8 @@ unfolding kindAt
 returns-4 c = sym (ap kindAt (c .match .keys4))
 
 returns-5 : tie.Need-returns-5
-returns-5 c = sym (kind-rest (c .before .args .n) (c .match .rest .0 .0 .0 .1) (c .match .rest .0 .0 .1) (c .match .rest .0 .1) (c .match .rest .1))
+returns-5 c =
+    sym (kind-rest (c .before .args .n) (c .match .rest .0 .0 .0 .1) (c .match .rest .0 .0 .1) (c .match .rest .0 .1) (c .match .rest .1))
 
 pub kind-at-spec : {M : Type 1} → statement M
 kind-at-spec = tie.close (tie.spec returns returns-2 returns-3 returns-4 returns-5)

@@ -40,7 +40,10 @@ kind-at-requires c κs = search needs
 
 returns-3 : tie.Need-returns-3
 unfolding optionRows rowsFor longNames shortNames kinds bytes
-returns-3 c = let n = c .before .before .before .before .args .n in let e : suc (n - 1) ≡ n = omega arith in c .kind-at .ensures ∙ row-kind (n - 1) ∙ ap kindOf e
+returns-3 c =
+    let n = c .before .before .before .before .args .n in
+    let e : suc (n - 1) ≡ n = omega arith in
+    c .kind-at .ensures ∙ row-kind (n - 1) ∙ ap kindOf e
 
 pub kind-of-spec : {M : Type 1} → statement M
 kind-of-spec =

@@ -40,7 +40,10 @@ add-t24 c = omega arith
 
 returns : tie.Need-returns Inv-loop μ-loop
 unfolding optionRows rowsFor longNames shortNames kinds bytes
-returns c = let l = c .before .before .before .before .before .loop in row-hit (c .before .before .before .before .before .before .before .args .t .now) (l .i) (l .inv .1) (c .before .before .before .before .loop-test .taken) (sym (c .before .row-names .ensures) ∙ c .if1 .taken)
+returns c =
+    let turn = c .before .before .before .before in
+    let at = turn .before in
+    row-hit (at .before .before .args .t .now) (at .loop .i) (at .loop .inv .1) (turn .loop-test .taken) (sym (c .before .row-names .ensures) ∙ c .if1 .taken)
 
 add-i : tie.Need-add-i Inv-loop μ-loop
 add-i c = omega arith
@@ -50,7 +53,10 @@ loop-less c = omega arith
 
 loop-again : tie.Need-loop-again Inv-loop μ-loop
 unfolding optionRows rowsFor longNames shortNames kinds bytes
-loop-again c = let l = c .before .before .before .before .before .loop in (omega arith, row-miss (c .before .before .before .before .before .before .before .args .t .now) (l .i) (l .inv .1) (c .before .before .before .before .loop-test .taken) (sym (c .before .row-names .ensures) ∙ c .if1 .left))
+loop-again c =
+    let turn = c .before .before .before .before in
+    let at = turn .before in
+    (omega arith, row-miss (at .before .before .args .t .now) (at .loop .i) (at .loop .inv .1) (turn .loop-test .taken) (sym (c .before .row-names .ensures) ∙ c .if1 .left))
 
 returns-2 : tie.Need-returns-2 Inv-loop μ-loop
 returns-2 c = row-none (c .before .before .before .args .t .now) (c .before .loop .i) (c .before .loop .inv .1) (c .loop-test .left)

@@ -41,7 +41,9 @@ cast-result c = let n = c .before .before .before .args .n in let h = option-fit
 
 returns-3 : tie.Need-returns-3
 unfolding optionRows rowsFor longNames shortNames kinds bytes
-returns-3 c = let n = c .before .before .before .args .n in row-length (getD optionRows (n - 1) []) (option-fits (n - 1) (omega arith) .0) ∙ ap length (option-name n (c .before .before .if1 .left))
+returns-3 c =
+    let n = c .before .before .before .args .n in
+    row-length (getD optionRows (n - 1) []) (option-fits (n - 1) (omega arith) .0) ∙ ap length (option-name n (c .before .before .if1 .left))
 
 pub option-name-len-spec : {M : Type 1} → statement M
 option-name-len-spec =

@@ -17,10 +17,14 @@ use Rattle.words.proofs.put_option_name.Lts as lts
 use Rattle.words.proofs.put_row.Reads as put-row-reads
 
 returns : tie.Need-returns
-returns c = let e : optionName (c .before .before .args .n) ≡ [] = ap optionName (c .if1 .taken) ∙ option-none in (sym (ap length e), sym (ap (sets (c .before .before .args .out .now) (c .before .before .args .at)) e))
+returns c =
+    let e : optionName (c .before .before .args .n) ≡ [] = ap optionName (c .if1 .taken) ∙ option-none in
+    (sym (ap length e), sym (ap (sets (c .before .before .args .out .now) (c .before .before .args .at)) e))
 
 returns-2 : tie.Need-returns-2
-returns-2 c = let e = option-out (c .before .before .before .args .n) (c .if2 .taken) in (sym (ap length e), sym (ap (sets (c .before .before .before .args .out .now) (c .before .before .before .args .at)) e))
+returns-2 c =
+    let e = option-out (c .before .before .before .args .n) (c .if2 .taken) in
+    (sym (ap length e), sym (ap (sets (c .before .before .before .args .out .now) (c .before .before .before .args .at)) e))
 
 sub-i : tie.Need-sub-i
 sub-i c = search needs
@@ -43,7 +47,11 @@ same-length c = search needs
 
 returns-3 : tie.Need-returns-3
 unfolding optionRows rowsFor longNames shortNames kinds bytes
-returns-3 c = let a = c .before .before .before .before .before .before .before .before .before .args in let e = option-name (a .n) (c .before .before .before .before .before .before .before .if1 .left) in let p = c .before .before .put-row .ensures in (p .0 ∙ ap length e, p .1 ∙ ap (sets (a .out .now) (a .at)) e)
+returns-3 c =
+    let a = c .before .before .before .before .before .before .before .before .before .args in
+    let e = option-name (a .n) (c .before .before .before .before .before .before .before .if1 .left) in
+    let p = c .before .before .put-row .ensures in
+    (p .0 ∙ ap length e, p .1 ∙ ap (sets (a .out .now) (a .at)) e)
 
 pub put-option-name-spec : {M : Type 1} → statement M
 put-option-name-spec =

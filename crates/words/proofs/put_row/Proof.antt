@@ -37,7 +37,11 @@ same-length : tie.Need-same-length
 same-length c = search needs
 
 returns : tie.Need-returns
-returns c = let a = c .before .before .before .before .before .before .before .before .args in let n = getD (a .row .now) 0 0 in let e : n + 1 - 1 ≡ n = omega arith in (row-length (a .row .now) (search needs), c .before .before .copy .ensures ∙ ap (λ (k : ℕ). sets (a .out .now) (a .at) (take k (drop 1 (a .row .now)))) e)
+returns c =
+    let a = c .before .before .before .before .before .before .before .before .args in
+    let n = getD (a .row .now) 0 0 in
+    let e : n + 1 - 1 ≡ n = omega arith in
+    (row-length (a .row .now) (search needs), c .before .before .copy .ensures ∙ ap (λ (k : ℕ). sets (a .out .now) (a .at) (take k (drop 1 (a .row .now)))) e)
 
 pub put-row-spec : {M : Type 1} → statement M
 put-row-spec =

@@ -44,30 +44,38 @@ only-requires-3 c κs = search needs
 
 returns : tie.Need-returns
 unfolding verbOf findOf verbNames names bytes
-returns c = c .only .ensures ∙ ap known (sym (find-of 2 1 verbNames (c .before .before .before .before .args .t .now) (c .before .before .match .keys1)))
+returns c =
+    c .only .ensures ∙ ap known (sym (find-of 2 1 verbNames (c .before .before .before .before .args .t .now) (c .before .before .match .keys1)))
 
 returns-2 : tie.Need-returns-2
 unfolding verbOf findOf verbNames names bytes
-returns-2 c = c .only2 .ensures ∙ ap known (sym (find-of 3 1 verbNames (c .before .before .before .before .args .t .now) (c .before .before .match .keys2)))
+returns-2 c =
+    c .only2 .ensures ∙ ap known (sym (find-of 3 1 verbNames (c .before .before .before .before .args .t .now) (c .before .before .match .keys2)))
 
 returns-3 : tie.Need-returns-3
 unfolding verbOf
-returns-3 c = c .verb-of-four .ensures ∙ ap known (sym (find-of 4 1 verbNames (c .before .before .before .args .t .now) (c .before .match .keys3)))
+returns-3 c =
+    c .verb-of-four .ensures ∙ ap known (sym (find-of 4 1 verbNames (c .before .before .before .args .t .now) (c .before .match .keys3)))
 
 returns-4 : tie.Need-returns-4
 unfolding verbOf
-returns-4 c = c .verb-of-five .ensures ∙ ap known (sym (find-of 5 1 verbNames (c .before .before .before .args .t .now) (c .before .match .keys4)))
+returns-4 c =
+    c .verb-of-five .ensures ∙ ap known (sym (find-of 5 1 verbNames (c .before .before .before .args .t .now) (c .before .match .keys4)))
 
 returns-5 : tie.Need-returns-5
 unfolding verbOf
-returns-5 c = c .verb-of-six .ensures ∙ ap known (sym (find-of 6 1 verbNames (c .before .before .before .args .t .now) (c .before .match .keys5)))
+returns-5 c =
+    c .verb-of-six .ensures ∙ ap known (sym (find-of 6 1 verbNames (c .before .before .before .args .t .now) (c .before .match .keys5)))
 
 returns-6 : tie.Need-returns-6
 unfolding verbOf findOf verbNames names bytes
-returns-6 c = c .only3 .ensures ∙ ap known (sym (find-of 7 1 verbNames (c .before .before .before .before .args .t .now) (c .before .before .match .keys6)))
+returns-6 c =
+    c .only3 .ensures ∙ ap known (sym (find-of 7 1 verbNames (c .before .before .before .before .args .t .now) (c .before .before .match .keys6)))
 
 returns-7 : tie.Need-returns-7
-returns-7 c = sym (ap known (no-verb (c .before .before .args .t .now) (c .match .rest .0 .0 .0 .0 .0 .1) (c .match .rest .0 .0 .0 .0 .1) (c .match .rest .0 .0 .0 .1) (c .match .rest .0 .0 .1) (c .match .rest .0 .1) (c .match .rest .1)))
+returns-7 c =
+    let not = c .match .rest in
+    sym (ap known (no-verb (c .before .before .args .t .now) (not .0 .0 .0 .0 .0 .1) (not .0 .0 .0 .0 .1) (not .0 .0 .0 .1) (not .0 .0 .1) (not .0 .1) (not .1)))
 
 pub verb-spec : {M : Type 1} → statement M
 verb-spec =

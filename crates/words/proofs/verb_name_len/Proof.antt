@@ -41,7 +41,9 @@ cast-result c = let n = c .before .before .before .args .n in let h = verb-fits 
 
 returns-3 : tie.Need-returns-3
 unfolding verbRows verbNames bytes
-returns-3 c = let n = c .before .before .before .args .n in row-length (getD verbRows (n - 1) []) (verb-fits (n - 1) (omega arith) .0) ∙ ap length (verb-name n (c .before .before .if1 .left))
+returns-3 c =
+    let n = c .before .before .before .args .n in
+    row-length (getD verbRows (n - 1) []) (verb-fits (n - 1) (omega arith) .0) ∙ ap length (verb-name n (c .before .before .if1 .left))
 
 pub verb-name-len-spec : {M : Type 1} → statement M
 verb-name-len-spec =

@@ -29,7 +29,9 @@ only-requires c κs = search needs
 
 returns-2 : tie.Need-returns-2
 unfolding findOf verbNames names bytes
-returns-2 c = simp (sym (c .before .before .before .same .ensures) ∙ c .before .before .if1 .left) (c .only .ensures)
+returns-2 c =
+    let d1 = c .before .before in
+    simp (sym (d1 .before .same .ensures) ∙ d1 .if1 .left) (c .only .ensures)
 
 pub verb-of-six-spec : {M : Type 1} → statement M
 verb-of-six-spec =
