@@ -1,3 +1,4 @@
 pub mod Tree
 pub mod Path
 pub mod Resolve
+pub mod Steps

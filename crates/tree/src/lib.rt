@@ -1,12 +1,15 @@
 // The lent tree: its check, the full path of a node, and the instances that a target addresses.
 ghost use mathlib.Core.Path.{_≡_};
 ghost use Prim.Native.Nat.{_+_, _*_, _≤_, _<_};
-ghost use mathlib.Core.List.{_∷_};
-ghost use lib.ListN.{length};
+ghost use mathlib.Core.List.{[], _∷_};
+ghost use mathlib.Core.Bool.{cond};
+ghost use lib.ListN.{length, set};
 ghost use lib.Seq.{sets};
 ghost use Rattle.text.specs.Lists.{allOf};
 ghost use Rattle.text.specs.Decimal.{width};
 ghost use Rattle.tree.specs.Tree.{isZero, tagLenIn, sameNode, twin, badRecord, checkTree, records, recordAt, parent, number};
+ghost use Rattle.tree.specs.Resolve.{taggedUnder, namedUnder, inTree, resolvedBy, listBy, resolveOf, resolveList, session′, nodes};
+ghost use Rattle.tree.specs.Steps.{taggedIn, namedIn, firstOf, kept, verdictOf, alongFrom, starred, foundAt, Within};
 ghost use Rattle.tree.specs.Path.{segment, pathUp, pathAnswer, pathRoom};
 
 // Whether a tree is good, or where its first bad record starts.
@@ -20,6 +23,13 @@ pub enum Resolved {
     Session,
     Nodes(usize),
     Refused { number: u8, place: usize },
+}
+
+// Where a path leads: a node, the children of a node that have the tag at a place, or a refusal.
+enum Spot {
+    Node(usize),
+    Tagged { node: usize, at: usize, tag: usize },
+    Lost { number: u8, place: usize },
 }
 
 // The bytes of a record: kind 0, parent 1 and 2, tag length 3, tag and padding 4 to 19, number 20 and 21.
@@ -268,5 +278,277 @@ pub fn full_path(t: &[u8], k: usize, out: &mut [u8]) -> text::Answer
             place: p,
         },
         Checked::Good => path_in(t, k, out),
+    }
+}
+
+// ---- the instances that a target addresses
+
+// The record that r begins with is a child of a node with a tag.
+fn is_tagged(r: &[u8], node: usize, tag: &[u8]) -> bool
+    requires { ⌜ (22 ≤ length (now r)) × (tagLenIn (now r) ≤ 16) ⌝ }
+    ensures { λ x. ⌜ x ≡ taggedIn (now (r .entry)) node (now (tag .entry)) ⌝ }
+{
+    if text::pair(r[1], r[2]) != node {
+        return false;
+    }
+    let end = 4 + text::pair(0, r[3]);
+    text::same(&r[4..end], tag)
+}
+
+// It has a number besides.
+fn is_named(r: &[u8], node: usize, tag: &[u8], number: u16) -> bool
+    requires { ⌜ (22 ≤ length (now r)) × (tagLenIn (now r) ≤ 16) ⌝ }
+    ensures { λ x. ⌜ x ≡ namedIn (now (r .entry)) node (now (tag .entry)) number ⌝ }
+{
+    if be16(r[20], r[21]) != number {
+        return false;
+    }
+    is_tagged(r, node, tag)
+}
+
+// The child of a node with a tag and a number, or 0: no child is the root.
+fn child(t: &[u8], node: usize, tag: &[u8], number: u16) -> usize
+    requires { ⌜ checkTree (now t) ≡ Checked.Good ⌝ }
+    ensures { λ r. ⌜ (r ≡ firstOf (namedUnder (now (t .entry)) node (now (tag .entry)) number)) × (r ≤ records (now (t .entry))) ⌝ }
+{
+    let n = t.len() / 22;
+    let mut k: usize = 0;
+    let mut p: usize = 0;
+    while k < n {
+        if is_named(&t[p..], node, tag, number) {
+            return k + 1;
+        }
+        p += 22;
+        k += 1;
+    }
+    0
+}
+
+// From segment to segment, from a place of the text and a node on.
+fn follow(text: &[u8], t: &[u8], at: usize, node: usize) -> Spot
+    requires { ⌜ (checkTree (now t) ≡ Checked.Good) × (node ≤ records (now t)) ⌝ }
+    ensures { λ r. ⌜ (foundAt (now (text .entry)) (now (t .entry)) r ≡ alongFrom (now (text .entry)) (now (t .entry)) node at) × Within (now (text .entry)) (now (t .entry)) r ⌝ }
+{
+    if text.len() < at {
+        return Spot::Node(node);
+    }
+    match forms::segment_at(text, at) {
+        forms::Piece::Here { len } => follow(text, t, at + len + 1, node),
+        forms::Piece::Above { len } => {
+            if node == 0 {
+                return Spot::Lost {
+                    number: 17,
+                    place: at,
+                };
+            }
+            follow(text, t, at + len + 1, parent(t, node))
+        }
+        forms::Piece::Child { len, tag, number } => {
+            let m = child(t, node, &text[at..at + tag], number);
+            if m == 0 {
+                return Spot::Lost {
+                    number: 18,
+                    place: at,
+                };
+            }
+            follow(text, t, at + len + 1, m)
+        }
+        forms::Piece::Children { len: _, tag } => Spot::Tagged { node, at, tag },
+        forms::Piece::No => Spot::Lost {
+            number: 12,
+            place: 0,
+        },
+    }
+}
+
+// A number at a place of the list; past its end nothing is written.
+fn put(list: &mut [u16], at: usize, k: u16)
+    ensures { λ r. ⌜ now (list .exit) ≡ set (now (list .entry)) at k ⌝ }
+{
+    if at < list.len() {
+        list[at] = k;
+    }
+}
+
+// A node at a place of the list if it is kept; tells the place after it.
+fn keep(list: &mut [u16], at: usize, k: u16, yes: bool) -> usize
+    requires { ⌜ at ≤ 512 ⌝ }
+    ensures { λ r. ⌜ (r ≡ at + length (kept yes k)) × (now (list .exit) ≡ sets (now (list .entry)) at (kept yes k)) ⌝ }
+{
+    if yes {
+        put(list, at, k);
+        return at + 1;
+    }
+    at
+}
+
+// 1 if it is kept.
+fn one(yes: bool) -> usize
+    ensures { λ r. ⌜ (r ≡ cond yes 1 0) × (r ≤ 1) ⌝ }
+{
+    if yes {
+        return 1;
+    }
+    0
+}
+
+// How many children of a node have a tag.
+fn count_tagged(t: &[u8], node: usize, tag: &[u8]) -> usize
+    requires { ⌜ checkTree (now t) ≡ Checked.Good ⌝ }
+    ensures { λ r. ⌜ r ≡ length (taggedUnder (now (t .entry)) node (now (tag .entry))) ⌝ }
+{
+    let n = t.len() / 22;
+    let mut k: usize = 0;
+    let mut p: usize = 0;
+    let mut found: usize = 0;
+    while k < n {
+        found += one(is_tagged(&t[p..], node, tag));
+        p += 22;
+        k += 1;
+    }
+    found
+}
+
+// The children of a node that have a tag, in record order, from the list's start on.
+fn put_tagged(t: &[u8], node: usize, tag: &[u8], list: &mut [u16])
+    requires { ⌜ checkTree (now t) ≡ Checked.Good ⌝ }
+    ensures { λ r. ⌜ now (list .exit) ≡ sets (now (list .entry)) 0 (taggedUnder (now (t .entry)) node (now (tag .entry))) ⌝ }
+{
+    let n = t.len() / 22;
+    let mut k: usize = 0;
+    let mut p: usize = 0;
+    let mut at: usize = 0;
+    while k < n {
+        let yes = is_tagged(&t[p..], node, tag);
+        k += 1;
+        at = keep(list, at, k as u16, yes);
+        p += 22;
+    }
+}
+
+// One node into the list.
+fn give_one(node: usize, list: &mut [u16]) -> Resolved
+    requires { ⌜ node ≤ 512 ⌝ }
+    ensures { λ r. ⌜ (r ≡ resolvedBy (length (now (list .entry))) (nodes (_∷_ node []))) × (now (list .exit) ≡ listBy (now (list .entry)) (nodes (_∷_ node []))) ⌝ }
+{
+    if list.len() < 1 {
+        return Resolved::Refused {
+            number: 19,
+            place: 0,
+        };
+    }
+    put(list, 0, node as u16);
+    Resolved::Nodes(1)
+}
+
+// All children of a node with the tag that stands at a place, into the list.
+fn give_tagged(t: &[u8], node: usize, at: usize, tag: &[u8], list: &mut [u16]) -> Resolved
+    requires { ⌜ checkTree (now t) ≡ Checked.Good ⌝ }
+    ensures { λ r. ⌜ (r ≡ resolvedBy (length (now (list .entry))) (starred (now (t .entry)) node at (now (tag .entry)))) × (now (list .exit) ≡ listBy (now (list .entry)) (starred (now (t .entry)) node at (now (tag .entry)))) ⌝ }
+{
+    let n = count_tagged(t, node, tag);
+    if n == 0 {
+        return Resolved::Refused {
+            number: 18,
+            place: at,
+        };
+    }
+    if list.len() < n {
+        return Resolved::Refused {
+            number: 19,
+            place: 0,
+        };
+    }
+    put_tagged(t, node, tag, list);
+    Resolved::Nodes(n)
+}
+
+// What a path leads to from a place of the text and a node on, into the list.
+fn give(text: &[u8], t: &[u8], at: usize, node: usize, list: &mut [u16]) -> Resolved
+    requires { ⌜ (checkTree (now t) ≡ Checked.Good) × (node ≤ records (now t)) ⌝ }
+    ensures { λ r. ⌜ (r ≡ resolvedBy (length (now (list .entry))) (alongFrom (now (text .entry)) (now (t .entry)) node at)) × (now (list .exit) ≡ listBy (now (list .entry)) (alongFrom (now (text .entry)) (now (t .entry)) node at)) ⌝ }
+{
+    match follow(text, t, at, node) {
+        Spot::Node(n) => give_one(n, list),
+        Spot::Tagged {
+            node: n,
+            at: p,
+            tag,
+        } => give_tagged(t, n, p, &text[p..p + tag], list),
+        Spot::Lost { number, place } => Resolved::Refused { number, place },
+    }
+}
+
+// 15 a bad tree, 16 a default target that is no node.
+fn verdict(t: &[u8], default: usize) -> text::Verdict
+    ensures { λ r. ⌜ r ≡ verdictOf (now (t .entry)) default ⌝ }
+{
+    match check(t) {
+        Checked::Bad(p) => text::Verdict::Flawed {
+            number: 15,
+            place: p,
+        },
+        Checked::Good => {
+            if t.len() / 22 < default {
+                return text::Verdict::Flawed {
+                    number: 16,
+                    place: 0,
+                };
+            }
+            text::Verdict::Fine
+        }
+    }
+}
+
+// What a path leads to in a tree that may be bad, from a default target that may be no node.
+fn give_from(
+    text: &[u8],
+    t: &[u8],
+    default: usize,
+    at: usize,
+    node: usize,
+    list: &mut [u16],
+) -> Resolved
+    requires { ⌜ node ≤ default ⌝ }
+    ensures { λ r. ⌜ (r ≡ resolvedBy (length (now (list .entry))) (inTree (checkTree (now (t .entry))) (now (t .entry)) default (alongFrom (now (text .entry)) (now (t .entry)) node at))) × (now (list .exit) ≡ listBy (now (list .entry)) (inTree (checkTree (now (t .entry))) (now (t .entry)) default (alongFrom (now (text .entry)) (now (t .entry)) node at))) ⌝ }
+{
+    match verdict(t, default) {
+        text::Verdict::Flawed { number, place } => Resolved::Refused { number, place },
+        text::Verdict::Fine => give(text, t, at, node, list),
+    }
+}
+
+// A session in a tree that may be bad, from a default target that may be no node.
+fn give_session(t: &[u8], default: usize) -> Resolved
+    ensures { λ r. ⌜ r ≡ resolvedBy 0 (inTree (checkTree (now (t .entry))) (now (t .entry)) default session′) ⌝ }
+{
+    match verdict(t, default) {
+        text::Verdict::Flawed { number, place } => Resolved::Refused { number, place },
+        text::Verdict::Fine => Resolved::Session,
+    }
+}
+
+// The nodes that a text addresses from a default target, in record order at the list's start; or a session; or a refusal: 12, 15, 16, 17, 18, 19.
+pub fn resolve(text: &[u8], t: &[u8], default: usize, list: &mut [u16]) -> Resolved
+    ensures { λ r. ⌜ (r ≡ resolveOf (length (now (list .entry))) (now (text .entry)) (now (t .entry)) default) × (now (list .exit) ≡ resolveList (now (list .entry)) (now (text .entry)) (now (t .entry)) default) ⌝ }
+{
+    if text.len() == 0 {
+        return give_from(text, t, default, 1, default, list);
+    }
+    match forms::target_of(text) {
+        forms::Where::No => Resolved::Refused {
+            number: 12,
+            place: 0,
+        },
+        forms::Where::Session => give_session(t, default),
+        forms::Where::Path { rooted, segments } => {
+            if segments == 0 {
+                return give_from(text, t, default, 2, 0, list);
+            }
+            if rooted {
+                return give_from(text, t, default, 1, 0, list);
+            }
+            give_from(text, t, default, 0, default, list)
+        }
     }
 }

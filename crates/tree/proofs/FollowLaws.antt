@@ -1,0 +1,248 @@
+-- From segment to segment: what each piece of a path leads to. Assumes nothing.
+use mathlib.Core.Path.{_≡_, refl, ap, sym, _∙_}
+use Prim.Native.Nat.{ℕ, zero, suc, _+_, _-_, _*_, _/_, _<_, _≤_}
+use native.Mathlib.Omega.{arith}
+use mathlib.Core.List.{List, [], _∷_, _++_}
+use mathlib.Core.Bool.{Bool, true, false, cond, _&&_}
+use mathlib.Core.Option.{Option, none, some}
+use borrow.Author.Tests.{le-leb, lt-leb, leb-true, leb-false, eq-eqb, ne-eqb}
+use lib.Dec.{eqb, leb}
+use lib.ListN.{length, take, drop}
+use lib.Seq.{take-take, length-take-le}
+use Rattle.text.specs.Bytes.{bytes, sameBytes, isLetter}
+use Rattle.text.specs.Lists.{parts, runLen}
+use Rattle.text.specs.Decimal.{valueFrom}
+use Rattle.text.proofs.Basics.{none-some, same-some}
+use Rattle.text.proofs.Scans.{run-within}
+use Rattle.text.proofs.Slices.{part-between}
+use Rattle.forms.specs.declared.Piece.{Piece}
+use Rattle.forms.specs.declared.Piece.the-variants as piece
+use Rattle.forms.specs.Targets.{Segment, here, above, child, children, segmentOf, isSeparator, tagLen, isNumbered, isStarred}
+use Rattle.forms.specs.Answers.{pieceOf, segmentText, segmentAt}
+use Rattle.forms.proofs.SegmentLaws.{segment-text, segment-within, parts-last, parts-more}
+use Rattle.tree.specs.Tree.{records, parent}
+use Rattle.tree.specs.Resolve.{nodesFrom, isNamed, taggedUnder, namedUnder, Found, nodes, refused, orNone, stepBy, along}
+use Rattle.tree.specs.Steps.{firstOf, segmentsFrom, alongFrom, starred}
+
+-- ---- a segment, and those after it
+
+segments-at : (text : List ℕ) (at n : ℕ) → n ≡ length (segmentText text at) → at ≤ length text → (b : Bool) → leb (at + n + 1) (length text) ≡ b
+    → parts isSeparator (drop at text) ≡ segmentText text at ∷ cond b (parts isSeparator (drop (at + n + 1) text)) []
+segments-at text at n z h true e =
+    parts-more text at n z (omega (arith, leb-true (at + n + 1) (length text) e))
+    ∙ ap (λ (s : List ℕ). s ∷ parts isSeparator (drop (at + n + 1) text)) (segment-text text at n z)
+segments-at text at n z h false e =
+    parts-last text at n z (omega (arith, leb-false (at + n + 1) (length text) e, segment-within text at n z h)) ∙ ap (λ (s : List ℕ). s ∷ []) (segment-text text at n z)
+
+segments-step : (text : List ℕ) (at : ℕ) → at ≤ length text
+    → segmentsFrom text at ≡ segmentText text at ∷ segmentsFrom text (at + length (segmentText text at) + 1)
+unfolding segmentsFrom
+segments-step text at h =
+    rw (le-leb at (length text) h) (segments-at text at (length (segmentText text at)) refl h (leb (at + length (segmentText text at) + 1) (length text)) refl)
+
+module _ (text t : List ℕ) (n at : ℕ) where
+  pub follow-past : length text < at → nodes (n ∷ []) ≡ alongFrom text t n at
+  unfolding alongFrom segmentsFrom along
+  follow-past h = sym (rw (lt-leb at (length text) h))
+
+  along-step : at ≤ length text → alongFrom text t n at ≡ stepBy t n at (segmentOf (segmentText text at)) (λ m. alongFrom text t m (at + length (segmentText text at) + 1))
+  unfolding alongFrom along
+  along-step h = ap (along t n at) (segments-step text at h)
+
+-- ---- what a piece says of its segment
+
+module _ (l : ℕ) where
+  is-here : (o : Option Segment) (len : ℕ) → pieceOf l o ≡ piece.Here len → (o ≡ some here) × (len ≡ l)
+  is-here none len e = absurd (let z : _≡_ {A = ℕ} 0 1 = cc in omega arith)
+  is-here (some here) len e = (refl, cc)
+  is-here (some above) len e = absurd (let z : _≡_ {A = ℕ} 0 1 = cc in omega arith)
+  is-here (some (child a i)) len e = absurd (let z : _≡_ {A = ℕ} 0 1 = cc in omega arith)
+  is-here (some (children a)) len e = absurd (let z : _≡_ {A = ℕ} 0 1 = cc in omega arith)
+
+  is-above : (o : Option Segment) (len : ℕ) → pieceOf l o ≡ piece.Above len → (o ≡ some above) × (len ≡ l)
+  is-above none len e = absurd (let z : _≡_ {A = ℕ} 0 1 = cc in omega arith)
+  is-above (some here) len e = absurd (let z : _≡_ {A = ℕ} 0 1 = cc in omega arith)
+  is-above (some above) len e = (refl, cc)
+  is-above (some (child a i)) len e = absurd (let z : _≡_ {A = ℕ} 0 1 = cc in omega arith)
+  is-above (some (children a)) len e = absurd (let z : _≡_ {A = ℕ} 0 1 = cc in omega arith)
+
+  is-child : (o : Option Segment) (len tag i : ℕ) → pieceOf l o ≡ piece.Child len tag i → (a : List ℕ) × (o ≡ some (child a i)) × (len ≡ l) × (tag ≡ length a)
+  is-child none len tag i e = absurd (let z : _≡_ {A = ℕ} 0 1 = cc in omega arith)
+  is-child (some here) len tag i e = absurd (let z : _≡_ {A = ℕ} 0 1 = cc in omega arith)
+  is-child (some above) len tag i e = absurd (let z : _≡_ {A = ℕ} 0 1 = cc in omega arith)
+  is-child (some (child a j)) len tag i e = let z : j ≡ i = cc in (a, ap (λ (x : ℕ). some (child a x)) z, cc, cc)
+  is-child (some (children a)) len tag i e = absurd (let z : _≡_ {A = ℕ} 0 1 = cc in omega arith)
+
+  is-children : (o : Option Segment) (len tag : ℕ) → pieceOf l o ≡ piece.Children len tag → (a : List ℕ) × (o ≡ some (children a)) × (len ≡ l) × (tag ≡ length a)
+  is-children none len tag e = absurd (let z : _≡_ {A = ℕ} 0 1 = cc in omega arith)
+  is-children (some here) len tag e = absurd (let z : _≡_ {A = ℕ} 0 1 = cc in omega arith)
+  is-children (some above) len tag e = absurd (let z : _≡_ {A = ℕ} 0 1 = cc in omega arith)
+  is-children (some (child a j)) len tag e = absurd (let z : _≡_ {A = ℕ} 0 1 = cc in omega arith)
+  is-children (some (children a)) len tag e = (a, refl, cc, cc)
+
+  is-none : (o : Option Segment) → pieceOf l o ≡ piece.No → o ≡ none
+  is-none none e = refl
+  is-none (some here) e = absurd (let z : _≡_ {A = ℕ} 0 1 = cc in omega arith)
+  is-none (some above) e = absurd (let z : _≡_ {A = ℕ} 0 1 = cc in omega arith)
+  is-none (some (child a j)) e = absurd (let z : _≡_ {A = ℕ} 0 1 = cc in omega arith)
+  is-none (some (children a)) e = absurd (let z : _≡_ {A = ℕ} 0 1 = cc in omega arith)
+
+-- the tag of a segment is its letters
+tag-of : (s a : List ℕ) (i : ℕ) → segmentOf s ≡ some (child a i) → a ≡ take (tagLen s) s
+unfolding segmentOf
+tag-of s a i e = go (sameBytes s (bytes ".")) (sameBytes s (bytes "..")) (isNumbered s) (isStarred s) e
+  where
+    go : (w x y z : Bool)
+        → cond w (some here) (cond x (some above) (cond y (some (child (take (tagLen s) s) (valueFrom 0 (drop (tagLen s) s)))) (cond z (some (children (take (tagLen s) s))) none))) ≡ some (child a i)
+        → a ≡ take (tagLen s) s
+    go true x y z q = absurd (let c : _≡_ {A = ℕ} 0 1 = cc in omega arith)
+    go false true y z q = absurd (let c : _≡_ {A = ℕ} 0 1 = cc in omega arith)
+    go false false true z q = cc
+    go false false false true q = absurd (let c : _≡_ {A = ℕ} 0 1 = cc in omega arith)
+    go false false false false q = absurd (let c : _≡_ {A = ℕ} 0 1 = cc in omega arith)
+
+tag-of-star : (s a : List ℕ) → segmentOf s ≡ some (children a) → a ≡ take (tagLen s) s
+unfolding segmentOf
+tag-of-star s a e = go (sameBytes s (bytes ".")) (sameBytes s (bytes "..")) (isNumbered s) (isStarred s) e
+  where
+    go : (w x y z : Bool)
+        → cond w (some here) (cond x (some above) (cond y (some (child (take (tagLen s) s) (valueFrom 0 (drop (tagLen s) s)))) (cond z (some (children (take (tagLen s) s))) none))) ≡ some (children a)
+        → a ≡ take (tagLen s) s
+    go true x y z q = absurd (let c : _≡_ {A = ℕ} 0 1 = cc in omega arith)
+    go false true y z q = absurd (let c : _≡_ {A = ℕ} 0 1 = cc in omega arith)
+    go false false true z q = absurd (let c : _≡_ {A = ℕ} 0 1 = cc in omega arith)
+    go false false false true q = cc
+    go false false false false q = absurd (let c : _≡_ {A = ℕ} 0 1 = cc in omega arith)
+
+-- it stands in the text at the segment's place
+tag-in : (text a : List ℕ) (at tag : ℕ) → a ≡ take (tagLen (segmentText text at)) (segmentText text at) → tag ≡ length a
+    → (take tag (drop at text) ≡ a) × (tag ≤ length (segmentText text at))
+unfolding tagLen
+tag-in text a at tag e l =
+    let s = segmentText text at in
+    let w = run-within isLetter s in
+    let m : tag ≡ runLen isLetter s = l ∙ ap length e ∙ length-take-le (runLen isLetter s) s w in (
+      sym
+          (e ∙ ap (λ (i : ℕ). take i s) (sym m) ∙ ap (take tag) (sym (segment-text text at (length s) refl)) ∙ take-take tag (length s) (drop at text) (omega arith)),
+      omega arith,
+    )
+
+-- ---- the first of the nodes that are found
+
+-- no node that is found is the root
+nodes-some : (f : ℕ → Bool) (k m : ℕ) → firstOf (nodesFrom f (suc k) m) ≡ 0 → nodesFrom f (suc k) m ≡ []
+unfolding nodesFrom
+nodes-some f k zero e = refl
+nodes-some f k (suc m) e = go (f (suc k)) e (nodes-some f (suc k) m)
+  where
+    go : (b : Bool) → firstOf (cond b (suc k ∷ nodesFrom f (suc (suc k)) m) (nodesFrom f (suc (suc k)) m)) ≡ 0
+        → (firstOf (nodesFrom f (suc (suc k)) m) ≡ 0 → nodesFrom f (suc (suc k)) m ≡ [])
+        → cond b (suc k ∷ nodesFrom f (suc (suc k)) m) (nodesFrom f (suc (suc k)) m) ≡ []
+    go true q ih = absurd (omega arith)
+    go false q ih = ih q
+
+named-some : (t : List ℕ) (n : ℕ) (a : List ℕ) (i : ℕ) → firstOf (namedUnder t n a i) ≡ 0 → namedUnder t n a i ≡ []
+unfolding namedUnder
+named-some t n a i e = nodes-some (isNamed t n a i) 0 (records t) e
+
+no-first : (at : ℕ) (l : List ℕ) (f : ℕ → List ℕ → Found) → (firstOf l ≡ 0 → l ≡ []) → firstOf l ≡ 0 → orNone at l f ≡ refused 18 at
+no-first at l f h e = ap (λ (x : List ℕ). orNone at x f) (h e)
+
+the-first : (at : ℕ) (l : List ℕ) (f : ℕ → Found) (m : ℕ) → m ≡ firstOf l → (m ≡ 0 → ⊥) → orNone at l (λ k ks. f k) ≡ f m
+the-first at [] f m e z = absurd (z e)
+the-first at (x ∷ l) f m e z = ap f (sym e)
+
+-- ---- each piece
+
+module _ (text : List ℕ) (at : ℕ) (p : Piece) (h : at ≤ length text) (r : p ≡ segmentAt text at) where
+  said : pieceOf (length (segmentText text at)) (segmentOf (segmentText text at)) ≡ p
+  unfolding segmentAt
+  said = sym r
+
+  is-here-at : (len : ℕ) → p ≡ piece.Here len → (segmentOf (segmentText text at) ≡ some here) × (len ≡ length (segmentText text at))
+  is-here-at len q = is-here (length (segmentText text at)) (segmentOf (segmentText text at)) len (said ∙ q)
+
+  is-above-at : (len : ℕ) → p ≡ piece.Above len → (segmentOf (segmentText text at) ≡ some above) × (len ≡ length (segmentText text at))
+  is-above-at len q = is-above (length (segmentText text at)) (segmentOf (segmentText text at)) len (said ∙ q)
+
+  -- a child's tag stands at the segment's place
+  is-child-at : (len tag i : ℕ) → p ≡ piece.Child len tag i
+      → (segmentOf (segmentText text at) ≡ some (child (take tag (drop at text)) i)) × (len ≡ length (segmentText text at)) × (tag ≤ len)
+  is-child-at len tag i q =
+      let c = is-child (length (segmentText text at)) (segmentOf (segmentText text at)) len tag i (said ∙ q) in
+      let g = tag-in text (c .0) at tag (tag-of (segmentText text at) (c .0) i (c .1)) (c .3) in
+      let l = g .1 in
+      let e = c .2 in
+      (c .1 ∙ ap (λ (a : List ℕ). some (child a i)) (sym (g .0)), e, omega arith)
+
+  is-star-at : (len tag : ℕ) → p ≡ piece.Children len tag
+      → (segmentOf (segmentText text at) ≡ some (children (take tag (drop at text)))) × (len ≡ length (segmentText text at)) × (tag ≤ len)
+  is-star-at len tag q =
+      let c = is-children (length (segmentText text at)) (segmentOf (segmentText text at)) len tag (said ∙ q) in
+      let g = tag-in text (c .0) at tag (tag-of-star (segmentText text at) (c .0) (c .1)) (c .3) in
+      let l = g .1 in
+      let e = c .2 in
+      (c .1 ∙ ap (λ (a : List ℕ). some (children a)) (sym (g .0)), e, omega arith)
+
+  pub here-within : (len : ℕ) → p ≡ piece.Here len → at + len ≤ length text
+  here-within len q = segment-within text at len (is-here-at len q .1) h
+
+  pub above-within : (len : ℕ) → p ≡ piece.Above len → at + len ≤ length text
+  above-within len q = segment-within text at len (is-above-at len q .1) h
+
+  pub child-within : (len tag i : ℕ) → p ≡ piece.Child len tag i → at + len ≤ length text
+  child-within len tag i q = segment-within text at len (is-child-at len tag i q .1) h
+
+  pub tag-within : (len tag i : ℕ) → p ≡ piece.Child len tag i → at + tag ≤ length text
+  tag-within len tag i q =
+      let w = child-within len tag i q in
+      let l = is-child-at len tag i q .2 in
+      omega arith
+
+  pub star-within : (len tag : ℕ) → p ≡ piece.Children len tag → at + tag ≤ length text
+  star-within len tag q =
+      let w = segment-within text at len (is-star-at len tag q .1) h in
+      let l = is-star-at len tag q .2 in
+      omega arith
+
+  module _ (t : List ℕ) (n : ℕ) where
+    by : (o : Option Segment) (len : ℕ) → segmentOf (segmentText text at) ≡ o → len ≡ length (segmentText text at)
+        → alongFrom text t n at ≡ stepBy t n at o (λ m. alongFrom text t m (at + len + 1))
+    by o len e l =
+        along-step text t n at h ∙ ap (λ (q : Option Segment). stepBy t n at q (λ m. alongFrom text t m (at + length (segmentText text at) + 1))) e
+        ∙ ap (λ (i : ℕ). stepBy t n at o (λ m. alongFrom text t m (at + i + 1))) (sym l)
+
+    pub follow-here : (len : ℕ) (f : Found) → p ≡ piece.Here len → f ≡ alongFrom text t n (at + len + 1) → f ≡ alongFrom text t n at
+    follow-here len f q v = let w = is-here-at len q in v ∙ sym (by (some here) len (w .0) (w .1))
+
+    pub follow-root : (len : ℕ) → p ≡ piece.Above len → n ≡ 0 → refused 17 at ≡ alongFrom text t n at
+    follow-root len q z = let w = is-above-at len q in sym (by (some above) len (w .0) (w .1) ∙ simp (eq-eqb n 0 z))
+
+    pub follow-above : (len m : ℕ) (f : Found) → p ≡ piece.Above len → (n ≡ 0 → ⊥) → m ≡ parent t n → f ≡ alongFrom text t m (at + len + 1) → f ≡ alongFrom text t n at
+    follow-above len m f q z e v =
+        let w = is-above-at len q in
+        v ∙ ap (λ (k : ℕ). alongFrom text t k (at + len + 1)) e ∙ sym (by (some above) len (w .0) (w .1) ∙ simp (ne-eqb n 0 z))
+
+    module _ (len tag i : ℕ) (q : p ≡ piece.Child len tag i) where
+      step : alongFrom text t n at ≡ orNone at (namedUnder t n (take (at + tag - at) (drop at text)) i) (λ m ms. alongFrom text t m (at + len + 1))
+      step =
+          let w = is-child-at len tag i q in
+          by (some (child (take tag (drop at text)) i)) len (w .0) (w .1)
+          ∙ ap (λ (a : List ℕ). orNone at (namedUnder t n a i) (λ m ms. alongFrom text t m (at + len + 1))) (sym (part-between text at tag))
+
+      pub follow-none : (m : ℕ) → m ≡ firstOf (namedUnder t n (take (at + tag - at) (drop at text)) i) → m ≡ 0 → refused 18 at ≡ alongFrom text t n at
+      follow-none m e z =
+          let l = namedUnder t n (take (at + tag - at) (drop at text)) i in
+          sym (step ∙ no-first at l (λ k ks. alongFrom text t k (at + len + 1)) (named-some t n (take (at + tag - at) (drop at text)) i) (sym e ∙ z))
+
+      pub follow-child : (m : ℕ) (f : Found) → m ≡ firstOf (namedUnder t n (take (at + tag - at) (drop at text)) i) → (m ≡ 0 → ⊥)
+          → f ≡ alongFrom text t m (at + len + 1) → f ≡ alongFrom text t n at
+      follow-child m f e z v =
+          v ∙ sym (step ∙ the-first at (namedUnder t n (take (at + tag - at) (drop at text)) i) (λ k. alongFrom text t k (at + len + 1)) m e z)
+
+    pub follow-star : (len tag : ℕ) → p ≡ piece.Children len tag → starred t n at (take tag (drop at text)) ≡ alongFrom text t n at
+    unfolding starred
+    follow-star len tag q = let w = is-star-at len tag q in sym (by (some (children (take tag (drop at text)))) len (w .0) (w .1))
+
+    pub follow-no : p ≡ piece.No → refused 12 0 ≡ alongFrom text t n at
+    follow-no q = sym (by none (length (segmentText text at)) (is-none (length (segmentText text at)) (segmentOf (segmentText text at)) (said ∙ q)) refl)

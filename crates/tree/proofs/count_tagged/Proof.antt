@@ -1,0 +1,79 @@
+-- `tree::count_tagged` meets its contract.
+use Rattle.tree.proofs.count_tagged.Statement.{statement}
+use Rattle.tree.proofs.count_tagged.Tie as tie
+use Rattle.tree.proofs.count_tagged.Reads as reads
+use Rattle.tree.proofs.count_tagged.Lts as lts
+use Rattle.tree.proofs.is_tagged.Reads as is-tagged-reads
+use Rattle.tree.proofs.one.Reads as one-reads
+use mathlib.Core.Path.{_≡_, refl, ap, sym, _∙_}
+use Prim.Native.Nat.{ℕ, suc, _≤_, _<_, _-_, _+_, _*_, _/_}
+use native.Mathlib.Omega.{arith}
+use borrow.Author.Needs.{needs}
+use lib.ListN.{length, getD, take, drop}
+use mathlib.Core.Bool.{cond}
+use Rattle.tree.specs.Tree.{records}
+use Rattle.tree.specs.Resolve.{nodesFrom, isTagged, taggedUnder}
+use Rattle.tree.proofs.CheckLaws.{whole-from}
+use Rattle.tree.proofs.StepLaws.{record-short}
+use Rattle.tree.proofs.GiveLaws.{count-start, count-again, count-end}
+
+abbrev Inv-loop : tie.InvT-loop
+Inv-loop t node tag n k₀ p₀ found₀ k p found = (n ≡ length t / 22) × (k ≤ n) × (p ≡ 22 * k) × (found ≤ k) × (found + length (nodesFrom (isTagged t node tag) (suc k) (n - k)) ≡ length (taggedUnder t node tag))
+
+abbrev μ-loop : tie.MeasureT-loop
+μ-loop t node tag n k₀ p₀ found₀ k p found = n - k
+
+loop-holds : tie.Need-loop-holds Inv-loop μ-loop
+loop-holds c = (omega arith, omega arith, omega arith, omega arith, search (count-start, needs))
+
+sub-is-tagged : tie.Need-sub-is-tagged Inv-loop μ-loop
+sub-is-tagged c = omega arith
+
+part-is-tagged-start : tie.Need-part-is-tagged-start Inv-loop μ-loop
+part-is-tagged-start c = omega arith
+
+part-is-tagged-end : tie.Need-part-is-tagged-end Inv-loop μ-loop
+part-is-tagged-end c = omega arith
+
+is-tagged-requires : tie.Need-is-tagged-requires Inv-loop μ-loop
+is-tagged-requires c κs = (search (whole-from, needs), search (record-short, needs))
+
+one-requires : tie.Need-one-requires Inv-loop μ-loop
+one-requires c κs = tt
+
+add-found : tie.Need-add-found Inv-loop μ-loop
+add-found c = omega arith
+
+add-p : tie.Need-add-p Inv-loop μ-loop
+add-p c = omega arith
+
+add-k : tie.Need-add-k Inv-loop μ-loop
+add-k c = omega arith
+
+loop-less : tie.Need-loop-less Inv-loop μ-loop
+loop-less c = omega arith
+
+loop-again : tie.Need-loop-again Inv-loop μ-loop
+loop-again c = (omega arith, omega arith, omega arith, omega arith, search (count-again, needs))
+
+returns : tie.Need-returns Inv-loop μ-loop
+returns c = search (count-end, needs)
+
+pub count-tagged-spec : {M : Type 1} → statement M
+count-tagged-spec =
+    tie.close
+    (tie.spec
+    Inv-loop
+    μ-loop
+    loop-holds
+    sub-is-tagged
+    part-is-tagged-start
+    part-is-tagged-end
+    is-tagged-requires
+    one-requires
+    add-found
+    add-p
+    add-k
+    loop-less
+    loop-again
+    returns)
