@@ -3,3 +3,5 @@ pub mod SegmentLaws
 pub mod TextLaws
 pub mod ValueLaws
 pub mod PropertyLaws
+pub mod EntryLaws
+pub mod ArgumentLaws

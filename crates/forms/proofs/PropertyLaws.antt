@@ -1,5 +1,5 @@
 -- Names, and how a property's text divides by its bytes: its name, its operator, its value. Assumes nothing.
-use Prim.Native.Nat.{ℕ, zero, suc, _+_, _-_, _<_, _≤_}
+use Prim.Native.Nat.{ℕ, zero, suc, _+_, _-_, _<_, _≤_, min}
 use mathlib.Core.Path.{_≡_, refl, sym, ap, _∙_}
 use mathlib.Core.List.{List, [], _∷_, _++_, map, append-assoc, append-nil}
 use mathlib.Core.Bool.{Bool, true, false, cond, not, _&&_, _||_}
@@ -9,12 +9,12 @@ use native.Mathlib.Numerals.{add-one}
 use lib.ListN.{length, getD, take, drop, length-take, length-drop, drop-of-length-le}
 use lib.Seq.{take-all, split-at, length-take-le, drop-drop, getD-drop, getD-take}
 use lib.Dec.{eqb, leb, ltb}
-use borrow.Author.Tests.{eqb-true, eq-eqb, ne-eqb, le-leb, lt-leb, leb-true, leb-false, lt-ltb, le-ltb}
+use borrow.Author.Tests.{eqb-true, eq-eqb, ne-eqb, le-leb, lt-leb, leb-true, leb-false, lt-ltb, le-ltb, ltb-true}
 use Rattle.text.specs.Bytes.{oneOf, isLetter, isDigit, isWord}
 use Rattle.text.specs.Lists.{allOf, anyOf, upTo, past, runLen, given}
 use Rattle.text.proofs.Basics.{and-l, and-r, and-false, or-l, or-r, no-case, none-some, all-mono, up-at, past-at, any-at}
 use Rattle.text.proofs.Classes.{word-bounds, letter-word, other-byte}
-use Rattle.text.proofs.Scans.{run-within, run-all, all-run, take-run}
+use Rattle.text.proofs.Scans.{run-within, run-all, all-run, take-run, drop-step}
 use Rattle.terms.specs.declared.Mode.{Mode}
 use Rattle.terms.specs.declared.Mode.the-variants.{Out, OutGrave, In, InGrave}
 use Rattle.terms.specs.Signs.{Sign, bare, escaped, quote, quoted, quotedEscaped, isBare, twelve, after, gives, atEnd, signs, raw, raws}
@@ -24,7 +24,7 @@ use Rattle.forms.specs.declared.Shape.the-variants as shape
 use Rattle.forms.specs.Forms.{starts, isName, hasEq, Value, valueOf, Said, alone, equals, matches, saidOf, Property, property, propertyOf, topicOf, Entry, entry, entryOf}
 use Rattle.forms.specs.Answers.{isSome, operatorOf, shapeOf, textIn, propertyIn, topicIn, isValueIn}
 use Rattle.forms.specs.Steps.{nameLen, equalAt, shapeIf, isEntryIn}
-use Rattle.forms.proofs.ValueLaws.{starts-byte, equal-signs, value-part}
+use Rattle.forms.proofs.ValueLaws.{starts-byte, equal-signs, value-part, first-taken}
 
 -- ---- names
 
@@ -338,3 +338,239 @@ module _ (t : List ℕ) (k : ℕ) (n : Named t k) where
   valued-entry h d =
       ap (λ z. entryOf (signs Out z)) (cut-at t k h) ∙ ap (λ (z : ℕ). entryOf (signs Out (take k t ++ (z ∷ drop (k + 1) t)))) d
       ∙ entry-equal (take k t) (drop (k + 1) t) (n .words) ∙ rw (n .name)
+
+-- ---- `=` and `==`
+
+equal-there : (t : List ℕ) (v : ℕ) → equalAt t v ≡ true → (v < length t) × (getD t v 0 ≡ 61)
+equal-there t v e = (ltb-true v (length t) (and-l (ltb v (length t)) (eqb (getD t v 0) 61) e), eqb-true (getD t v 0) 61 (and-r (ltb v (length t)) (eqb (getD t v 0) 61) e))
+
+equal-not : (t : List ℕ) (v : ℕ) → v < length t → equalAt t v ≡ false → getD t v 0 ≡ 61 → ⊥
+equal-not t v h e z = no-case (sym (rw (lt-ltb v (length t) h, eq-eqb (getD t v 0) 61 z) refl) ∙ e)
+
+said-two : (t : List ℕ) (v : ℕ) → equalAt t v ≡ true → saidOf (signs Out (drop v t)) ≡ given (valueOf (signs Out (drop (v + 1) t))) (λ w. some (matches w))
+unfolding saidOf
+said-two t v e =
+    let h = equal-there t v e in
+    ap (λ z. saidOf (signs Out z)) (drop-step t v (h .0) ∙ ap (λ (b : ℕ). b ∷ drop (v + 1) t) (h .1)) ∙ ap saidOf (equal-signs (drop (v + 1) t))
+
+said-one : (t : List ℕ) (v : ℕ) → equalAt t v ≡ false → saidOf (signs Out (drop v t)) ≡ given (valueOf (signs Out (drop v t))) (λ w. some (equals w))
+unfolding saidOf
+said-one t v e = rw (no-start (leb (length t) v) refl)
+  where
+    no-start : (x : Bool) → leb (length t) v ≡ x → starts 61 (signs Out (drop v t)) ≡ false
+    no-start true p = ap (λ (z : List ℕ). starts 61 (signs Out z)) (drop-of-length-le t (leb-true (length t) v p)) ∙ unfold signs in refl
+    no-start false p =
+        let h = leb-false (length t) v p in
+        ap (λ (z : List ℕ). starts 61 (signs Out z)) (drop-step t v h) ∙ starts-byte 61 (getD t v 0) (drop (v + 1) t) refl refl
+        ∙ ne-eqb (getD t v 0) 61 (equal-not t v h e)
+
+-- ---- what a property's text is: nothing, or its name, operator and value
+
+-- a value stands after a name of k bytes and an operator of o bytes
+pub record Valued (t : List ℕ) (k o : ℕ) (value : Value) : Type 0 where
+  pub named : Named t k
+  pub sign : getD t k 0 ≡ 61
+  pub within : k + o ≤ length t
+  pub is : valueOf (signs Out (drop (k + o) t)) ≡ some value
+
+module _ {P : Type 0} (t : List ℕ) where
+  pub property-case : (propertyOf (signs Out t) ≡ none → P)
+      → ((k : ℕ) → Named t k → k ≡ length t → propertyOf (signs Out t) ≡ some (property (take k t) alone) → P)
+      → ((k : ℕ) (v : Value) → Valued t k 1 v → propertyOf (signs Out t) ≡ some (property (take k t) (equals v)) → P)
+      → ((k : ℕ) (v : Value) → Valued t k 2 v → propertyOf (signs Out t) ≡ some (property (take k t) (matches v)) → P) → P
+  property-case bad mere one two = start (eqb (nameLen t) 0) refl
+    where
+      gave : (b : Bool) → equalAt t (nameLen t + 1) ≡ b → Named t (nameLen t) → nameLen t < length t → getD t (nameLen t) 0 ≡ 61 → (o : Option Value) → valueOf (signs Out (drop (nameLen t + cond b 2 1) t)) ≡ o → P
+      gave true e n h d none p =
+          bad (said-property t (nameLen t) n h d ∙ rw (said-two t (nameLen t + 1) e, plus, p))
+        where
+          plus : drop (nameLen t + 1 + 1) t ≡ drop (nameLen t + 2) t
+          plus = let z : nameLen t + 1 + 1 ≡ nameLen t + 2 = omega arith in ap (λ (j : ℕ). drop j t) z
+      gave true e n h d (some v) p =
+          two (nameLen t) v (record { named = n; sign = d; within = let q = equal-there t (nameLen t + 1) e in omega (arith, q .0); is = p })
+          (said-property t (nameLen t) n h d ∙ rw (said-two t (nameLen t + 1) e, plus, p))
+        where
+          plus : drop (nameLen t + 1 + 1) t ≡ drop (nameLen t + 2) t
+          plus = let z : nameLen t + 1 + 1 ≡ nameLen t + 2 = omega arith in ap (λ (j : ℕ). drop j t) z
+      gave false e n h d none p = bad (said-property t (nameLen t) n h d ∙ rw (said-one t (nameLen t + 1) e, p))
+      gave false e n h d (some v) p =
+          one (nameLen t) v (record { named = n; sign = d; within = omega arith; is = p }) (said-property t (nameLen t) n h d ∙ rw (said-one t (nameLen t + 1) e, p))
+
+      after-name : (x y : Bool) → leb (length t) (nameLen t) ≡ x → eqb (getD t (nameLen t) 0) 61 ≡ y → Named t (nameLen t) → P
+      after-name true y p q n =
+          let h = leb-true (length t) (nameLen t) p in
+          let w = n .within in
+          let z : nameLen t ≡ length t = omega arith in
+          mere (nameLen t) n z (mere-property t (nameLen t) n z)
+      after-name false true p q n =
+          gave (equalAt t (nameLen t + 1)) refl n (leb-false (length t) (nameLen t) p) (eqb-true (getD t (nameLen t) 0) 61 q)
+          (valueOf (signs Out (drop (nameLen t + cond (equalAt t (nameLen t + 1)) 2 1) t))) refl
+      after-name false false p q n =
+          bad (other-property t (nameLen t) n (leb-false (length t) (nameLen t) p) (λ z. no-case (sym (eq-eqb (getD t (nameLen t) 0) 61 z) ∙ q)))
+
+      start : (x : Bool) → eqb (nameLen t) 0 ≡ x → P
+      start true p = bad (unnamed-property t (eqb-true (nameLen t) 0 p))
+      start false p =
+          after-name (leb (length t) (nameLen t)) (eqb (getD t (nameLen t) 0) 61) refl refl
+          (named t (nameLen t) refl (λ z. no-case (sym (eq-eqb (nameLen t) 0 z) ∙ p)))
+
+  pub entry-case : (entryOf (signs Out t) ≡ none → P)
+      → ((k : ℕ) → Named t k → k ≡ length t → entryOf (signs Out t) ≡ some (entry (take k t) none) → P)
+      → ((k : ℕ) (v : Value) → Valued t k 1 v → entryOf (signs Out t) ≡ some (entry (take k t) (some v)) → P) → P
+  entry-case bad mere one = start (eqb (nameLen t) 0) refl
+    where
+      gave : Named t (nameLen t) → nameLen t < length t → getD t (nameLen t) 0 ≡ 61 → (o : Option Value) → valueOf (signs Out (drop (nameLen t + 1) t)) ≡ o → P
+      gave n h d none p = bad (valued-entry t (nameLen t) n h d ∙ rw p)
+      gave n h d (some v) p = one (nameLen t) v (record { named = n; sign = d; within = omega arith; is = p }) (valued-entry t (nameLen t) n h d ∙ rw p)
+
+      after-name : (x y : Bool) → leb (length t) (nameLen t) ≡ x → eqb (getD t (nameLen t) 0) 61 ≡ y → Named t (nameLen t) → P
+      after-name true y p q n =
+          let h = leb-true (length t) (nameLen t) p in
+          let w = n .within in
+          let z : nameLen t ≡ length t = omega arith in
+          mere (nameLen t) n z (mere-entry t (nameLen t) n z)
+      after-name false true p q n =
+          gave n (leb-false (length t) (nameLen t) p) (eqb-true (getD t (nameLen t) 0) 61 q) (valueOf (signs Out (drop (nameLen t + 1) t))) refl
+      after-name false false p q n =
+          bad (other-entry t (nameLen t) n (leb-false (length t) (nameLen t) p) (λ z. no-case (sym (eq-eqb (getD t (nameLen t) 0) 61 z) ∙ q)))
+
+      start : (x : Bool) → eqb (nameLen t) 0 ≡ x → P
+      start true p = bad (unnamed-entry t (eqb-true (nameLen t) 0 p))
+      start false p =
+          after-name (leb (length t) (nameLen t)) (eqb (getD t (nameLen t) 0) 61) refl refl
+          (named t (nameLen t) refl (λ z. no-case (sym (eq-eqb (nameLen t) 0 z) ∙ p)))
+
+-- ---- each answer of the code; the text is the first n bytes of s
+
+shape-two : (o : Option Value) (m : List ℕ) (k : ℕ) → length m ≡ k → shapeIf (isSome o) k 2 ≡ shapeOf (given (given o (λ w. some (matches w))) (λ s. some (property m s)))
+shape-two none m k e = refl
+shape-two (some v) m k e = ap (λ (j : ℕ). shape.Is j 2) (sym e)
+
+shape-one : (o : Option Value) (m : List ℕ) (k : ℕ) → length m ≡ k → shapeIf (isSome o) k 1 ≡ shapeOf (given (given o (λ w. some (equals w))) (λ s. some (property m s)))
+shape-one none m k e = refl
+shape-one (some v) m k e = ap (λ (j : ℕ). shape.Is j 1) (sym e)
+
+entry-value : (o : Option Value) (m : List ℕ) → isSome o ≡ isSome (given o (λ w. some (entry m (some w))))
+entry-value none m = refl
+entry-value (some v) m = refl
+
+module _ (s : List ℕ) (n k : ℕ) (e : k ≡ nameLen (take n s)) where
+  pub property-unnamed : k ≡ 0 → shape.No ≡ propertyIn s n
+  unfolding propertyIn
+  property-unnamed h = sym (ap shapeOf (unnamed-property (take n s) (sym e ∙ h)))
+
+  pub entry-unnamed : k ≡ 0 → false ≡ isEntryIn s n
+  unfolding isEntryIn
+  entry-unnamed h = sym (ap isSome (unnamed-entry (take n s) (sym e ∙ h)))
+
+  module _ (h : k ≡ 0 → ⊥) where
+    name-length : length (take k (take n s)) ≡ k
+    name-length = length-take-le k (take n s) (named (take n s) k e h .within)
+
+    pub property-mere : k ≡ length (take n s) → shape.Is k 0 ≡ propertyIn s n
+    unfolding propertyIn
+    property-mere z = sym (ap shapeOf (mere-property (take n s) k (named (take n s) k e h) z) ∙ ap (λ (j : ℕ). shape.Is j 0) name-length)
+
+    pub entry-mere : k ≡ length (take n s) → true ≡ isEntryIn s n
+    unfolding isEntryIn
+    entry-mere z = sym (ap isSome (mere-entry (take n s) k (named (take n s) k e h) z))
+
+    module _ (l : k ≡ length (take n s) → ⊥) where
+      before : k < length (take n s)
+      before = let w = named (take n s) k e h .within in omega (arith, l)
+
+      pub property-not : equalAt (take n s) k ≡ false → shape.No ≡ propertyIn s n
+      unfolding propertyIn
+      property-not q = sym (ap shapeOf (other-property (take n s) k (named (take n s) k e h) before (equal-not (take n s) k before q)))
+
+      pub entry-not : equalAt (take n s) k ≡ false → false ≡ isEntryIn s n
+      unfolding isEntryIn
+      entry-not q = sym (ap isSome (other-entry (take n s) k (named (take n s) k e h) before (equal-not (take n s) k before q)))
+
+      pub property-two : (r : Bool) → equalAt (take n s) k ≡ true → equalAt (take n s) (k + 1) ≡ true
+          → r ≡ isValueIn (take (length s - (k + 2)) (drop (k + 2) s)) (n - (k + 2)) → shapeIf r k 2 ≡ propertyIn s n
+      unfolding propertyIn
+      property-two r q u v =
+          let t = take n s in
+          let z : k + 1 + 1 ≡ k + 2 = omega arith in
+          ap (λ (b : Bool). shapeIf b k 2) (v ∙ value-part s n (k + 2)) ∙ shape-two (valueOf (signs Out (drop (k + 2) t))) (take k t) k name-length
+          ∙ sym (ap shapeOf (said-property t k (named t k e h) before (equal-there t k q .1)
+          ∙ ap (λ o. given o (λ a. some (property (take k t) a))) (said-two t (k + 1) u ∙ ap (λ (j : ℕ). given (valueOf (signs Out (drop j t))) (λ w. some (matches w))) z)))
+
+      pub property-one : (r : Bool) → equalAt (take n s) k ≡ true → equalAt (take n s) (k + 1) ≡ false
+          → r ≡ isValueIn (take (length s - (k + 1)) (drop (k + 1) s)) (n - (k + 1)) → shapeIf r k 1 ≡ propertyIn s n
+      unfolding propertyIn
+      property-one r q u v =
+          let t = take n s in
+          ap (λ (b : Bool). shapeIf b k 1) (v ∙ value-part s n (k + 1)) ∙ shape-one (valueOf (signs Out (drop (k + 1) t))) (take k t) k name-length
+          ∙ sym (ap shapeOf (said-property t k (named t k e h) before (equal-there t k q .1) ∙ ap (λ o. given o (λ a. some (property (take k t) a))) (said-one t (k + 1) u)))
+
+      pub entry-one : (r : Bool) → equalAt (take n s) k ≡ true → r ≡ isValueIn (take (length s - (k + 1)) (drop (k + 1) s)) (n - (k + 1)) → r ≡ isEntryIn s n
+      unfolding isEntryIn
+      entry-one r q v =
+          let t = take n s in
+          v ∙ value-part s n (k + 1) ∙ entry-value (valueOf (signs Out (drop (k + 1) t))) (take k t)
+          ∙ sym (ap isSome (valued-entry t k (named t k e h) before (equal-there t k q .1)))
+
+      -- where a value begins after one `=`, or after two, is within the line
+      pub value-within : equalAt (take n s) k ≡ true → (k + 1 ≤ length s) × (k + 1 ≤ n)
+      value-within q = let w = length-take n s in omega (arith, equal-there (take n s) k q .0)
+
+      pub value-within-2 : equalAt (take n s) (k + 1) ≡ true → (k + 2 ≤ length s) × (k + 2 ≤ n)
+      value-within-2 q = let w = length-take n s in omega (arith, equal-there (take n s) (k + 1) q .0)
+
+-- ---- topics
+
+pub topic-name : (t : List ℕ) → isName t ≡ true → shape.Is (length t) 0 ≡ topicIn t
+unfolding topicIn topicOf
+topic-name t e = sym (rw (raws-signs t, e))
+
+pub topic-none : (t : List ℕ) → isName t ≡ false → shape.No ≡ topicIn t
+unfolding topicIn topicOf
+topic-none t e = sym (rw (raws-signs t, e))
+
+-- the length of a name at the front of a part, step by step
+module _ (s : List ℕ) (n : ℕ) where
+  pub name-empty : length (take n s) ≡ 0 → 0 ≡ nameLen (take n s)
+  name-empty h = go (take n s) h
+    where
+      go : (t : List ℕ) → length t ≡ 0 → 0 ≡ nameLen t
+      go [] e = unfold nameLen runLen in refl
+      go (b ∷ t) e = absurd (omega arith)
+
+  pub name-first : (length (take n s) ≡ 0 → ⊥) → isLetter (getD s 0 0) ≡ false → 0 ≡ nameLen (take n s)
+  unfolding nameLen
+  name-first h e = sym (rw (ap (λ (b : ℕ). isLetter b) (first-taken s n h) ∙ e))
+
+  pub name-long : (length (take n s) ≡ 0 → ⊥) → isLetter (getD s 0 0) ≡ true → (k : ℕ) → k ≡ runLen isWord (take n s) → 64 < k → 0 ≡ nameLen (take n s)
+  unfolding nameLen
+  name-long h e k r l = sym (rw (ap (λ (b : ℕ). isLetter b) (first-taken s n h) ∙ e, ← r, lt-leb k 64 l))
+
+  pub name-run : (length (take n s) ≡ 0 → ⊥) → isLetter (getD s 0 0) ≡ true → (k : ℕ) → k ≡ runLen isWord (take n s) → k ≤ 64 → k ≡ nameLen (take n s)
+  unfolding nameLen
+  name-run h e k r l = sym (rw (ap (λ (b : ℕ). isLetter b) (first-taken s n h) ∙ e, ← r, le-leb k 64 l))
+
+-- the part that is the text
+pub taken-part : (s : List ℕ) (n e : ℕ) → e ≡ length (take n s) → take e s ≡ take n s
+taken-part s n e h = go (leb n (length s)) refl
+  where
+    l : length (take n s) ≡ min n (length s)
+    l = length-take n s
+
+    go : (x : Bool) → leb n (length s) ≡ x → take e s ≡ take n s
+    go true p = let q = leb-true n (length s) p in let z : e ≡ n = omega (arith, l) in ap (λ (j : ℕ). take j s) z
+    go false p = let q = leb-false n (length s) p in take-all e s (omega (arith, l)) ∙ sym (take-all n s (omega arith))
+
+pub name-nil : (t : List ℕ) → length t ≡ 0 → false ≡ isName t
+unfolding isName
+name-nil [] h = refl
+name-nil (b ∷ t) h = absurd (omega arith)
+
+-- `=` at a place within the text, and past it
+pub equal-within : (s : List ℕ) (n v : ℕ) → v < length (take n s) → eqb (getD s v 0) 61 ≡ equalAt (take n s) v
+equal-within s n v h =
+    let l = length-take n s in
+    sym (rw (lt-ltb v (length (take n s)) h, getD-take n s v 0 (omega arith)))
+
+pub equal-past : (s : List ℕ) (n v : ℕ) → length (take n s) ≤ v → false ≡ equalAt (take n s) v
+equal-past s n v h = sym (rw (le-ltb v (length (take n s)) h))

@@ -64,7 +64,7 @@ value-list (b ∷ t) h =
     ∙ some-if (isList (signs Out t)) (many (map stands (itemsIn (signs Out t))))
 
 -- what stands first in the first n of a list
-first-taken : (s : List ℕ) (n : ℕ) → (length (take n s) ≡ 0 → ⊥) → getD (take n s) 0 0 ≡ getD s 0 0
+pub first-taken : (s : List ℕ) (n : ℕ) → (length (take n s) ≡ 0 → ⊥) → getD (take n s) 0 0 ≡ getD s 0 0
 first-taken [] zero h = absurd (h refl)
 first-taken [] (suc n) h = absurd (h refl)
 first-taken (b ∷ s) zero h = absurd (h refl)

@@ -6,12 +6,13 @@ ghost use lib.ListN.{length, take, drop, getD};
 ghost use lib.Dec.{eqb, leb};
 ghost use Rattle.terms.specs.declared.Mode.the-variants.{Out, OutGrave, In, InGrave};
 ghost use Rattle.terms.specs.Signs.{bare, escaped, quote, quoted, gives, signs};
-ghost use Rattle.forms.specs.Forms.{isName, isKeep, isLevel, isPlainSign, isText, isList};
+ghost use Rattle.forms.specs.Forms.{isName, isKeep, isLevel, isPlace, isPlainSign, isText, isList};
 ghost use Rattle.forms.specs.Targets.{isSeparator, isTagLen, segmentOf, segmentsOf};
 ghost use Rattle.forms.specs.Automata.{textStep, whole, textOver, textEnd, isComma, opened, entryLen};
 ghost use Rattle.forms.specs.Answers.{pieceOf, segmentText, segmentAt, whereOf, targetIn, isValueIn, propertyIn, topicIn, areEntriesIn};
 ghost use Rattle.forms.specs.Steps.{numberOf, afterTag, isInner, isLast, bareAt, nextItem, listStep, itemsAfter, endsItem, itemLen, nameLen, equalAt, shapeIf, isEntryIn};
 use terms::Mode;
+use terms::has_quote;
 use terms::is_twelve;
 use terms::is_two;
 use terms::step;
@@ -512,4 +513,224 @@ pub fn is_value(s: &[u8], n: usize) -> bool
         return is_list(&s[1..], n - 1);
     }
     is_text(s, n)
+}
+
+// How many bytes the name has that the first n bytes of s begin with: 0 where they begin with none.
+fn name_len(s: &[u8], n: usize) -> usize
+    ensures { λ r. ⌜ r ≡ nameLen (take n (now (s .entry))) ⌝ }
+{
+    let end = end_of(s, n);
+    if end == 0 {
+        return 0;
+    }
+    if !is_letter(s[0]) {
+        return 0;
+    }
+    let k = words_len(&s[..end]);
+    if 64 < k {
+        return 0;
+    }
+    k
+}
+
+pub fn is_name(t: &[u8]) -> bool
+    ensures { λ r. ⌜ r ≡ isName (now (t .entry)) ⌝ }
+{
+    if t.len() == 0 {
+        return false;
+    }
+    let k = name_len(t, t.len());
+    k == t.len()
+}
+
+// keep: a decimal from 0 to 4,294,967,295.
+pub fn is_keep(t: &[u8]) -> bool
+    ensures { λ r. ⌜ r ≡ isKeep (now (t .entry)) ⌝ }
+{
+    let number = decimal(t, 4294967295);
+    match number {
+        Number::Is(_) => true,
+        Number::No => false,
+    }
+}
+
+// level: the same, or `all`.
+pub fn is_level(t: &[u8]) -> bool
+    ensures { λ r. ⌜ r ≡ isLevel (now (t .entry)) ⌝ }
+{
+    if is_keep(t) {
+        return true;
+    }
+    is_all(t)
+}
+
+// source, destination: no unescaped `"`.
+pub fn is_place(t: &[u8]) -> bool
+    ensures { λ r. ⌜ r ≡ isPlace (signs Out (now (t .entry))) ⌝ }
+{
+    !has_quote(t)
+}
+
+// A help topic: a name.
+pub fn topic_of(t: &[u8]) -> Shape
+    ensures { λ r. ⌜ r ≡ topicIn (now (t .entry)) ⌝ }
+{
+    if is_name(t) {
+        return Shape::Is {
+            name: t.len(),
+            operator: 0,
+        };
+    }
+    Shape::No
+}
+
+fn is_equal(s: &[u8], n: usize, v: usize) -> bool
+    ensures { λ r. ⌜ r ≡ equalAt (take n (now (s .entry))) v ⌝ }
+{
+    let end = end_of(s, n);
+    if v < end {
+        return s[v] == b'=';
+    }
+    false
+}
+
+fn shape_if(good: bool, name: usize, operator: u8) -> Shape
+    ensures { λ r. ⌜ r ≡ shapeIf good name operator ⌝ }
+{
+    if good {
+        return Shape::Is { name, operator };
+    }
+    Shape::No
+}
+
+// The property in the first n bytes of s: name, name `=` value or name `==` value.
+pub fn property_of(s: &[u8], n: usize) -> Shape
+    ensures { λ r. ⌜ r ≡ propertyIn (now (s .entry)) n ⌝ }
+{
+    let k = name_len(s, n);
+    if k == 0 {
+        return Shape::No;
+    }
+    if k == end_of(s, n) {
+        return Shape::Is {
+            name: k,
+            operator: 0,
+        };
+    }
+    if !is_equal(s, n, k) {
+        return Shape::No;
+    }
+    let v = k + 1;
+    if is_equal(s, n, v) {
+        let w = k + 2;
+        return shape_if(is_value(&s[w..], n - w), k, 2);
+    }
+    shape_if(is_value(&s[v..], n - v), k, 1)
+}
+
+// Is the text of one item of display or output a name, or a name, `=` and a value?
+fn is_entry(s: &[u8], n: usize) -> bool
+    ensures { λ r. ⌜ r ≡ isEntryIn (now (s .entry)) n ⌝ }
+{
+    let k = name_len(s, n);
+    if k == 0 {
+        return false;
+    }
+    if k == end_of(s, n) {
+        return true;
+    }
+    if !is_equal(s, n, k) {
+        return false;
+    }
+    let v = k + 1;
+    is_value(&s[v..], n - v)
+}
+
+// Does a byte part the items of display and output? Not where a parenthesis is open.
+fn is_comma(m: Mode, listed: bool, b: u8) -> bool
+    ensures { λ r. ⌜ r ≡ isComma m listed b ⌝ }
+{
+    if listed {
+        return false;
+    }
+    is_bare(m, b, b',')
+}
+
+// Is a parenthesis open after a byte?
+fn is_listed(m: Mode, listed: bool, b: u8) -> bool
+    ensures { λ r. ⌜ r ≡ opened m listed b ⌝ }
+{
+    if is_bare(m, b, b'(') {
+        return true;
+    }
+    if is_bare(m, b, b')') {
+        return false;
+    }
+    listed
+}
+
+// How many of the first n bytes of s are the first item of display or output: those before a bare comma that stands in no list.
+pub fn entry_len(s: &[u8], n: usize) -> usize
+    ensures { λ r. ⌜ r ≡ entryLen Out false (take n (now (s .entry))) ⌝ }
+{
+    let end = end_of(s, n);
+    let mut i: usize = 0;
+    let mut m = Mode::Out;
+    let mut listed = false;
+    while i < end {
+        let b = s[i];
+        if is_comma(m, listed, b) {
+            return i;
+        }
+        listed = is_listed(m, listed, b);
+        m = step(m, b);
+        i += 1;
+    }
+    i
+}
+
+// Are the first n bytes of s the items of display or output?
+pub fn are_entries(s: &[u8], n: usize) -> bool
+    ensures { λ r. ⌜ r ≡ areEntriesIn (now (s .entry)) n ⌝ }
+{
+    let end = end_of(s, n);
+    let mut at: usize = 0;
+    loop {
+        let k = entry_len(&s[at..], end - at);
+        if !is_entry(&s[at..], k) {
+            return false;
+        }
+        let comma = at + k;
+        if comma == end {
+            return true;
+        }
+        at = comma + 1;
+    }
+}
+
+fn ends_item(m: Mode, b: u8) -> bool
+    ensures { λ r. ⌜ r ≡ endsItem m b ⌝ }
+{
+    if is_bare(m, b, b',') {
+        return true;
+    }
+    is_bare(m, b, b')')
+}
+
+// How many of the first n bytes of s are the first item of a list: those before a bare comma or closing parenthesis.
+pub fn item_len(s: &[u8], n: usize) -> usize
+    ensures { λ r. ⌜ r ≡ itemLen Out (take n (now (s .entry))) ⌝ }
+{
+    let end = end_of(s, n);
+    let mut i: usize = 0;
+    let mut m = Mode::Out;
+    while i < end {
+        let b = s[i];
+        if ends_item(m, b) {
+            return i;
+        }
+        m = step(m, b);
+        i += 1;
+    }
+    i
 }

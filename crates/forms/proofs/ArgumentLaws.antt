@@ -1,0 +1,46 @@
+-- The arguments of keep, level, source and destination. Assumes nothing.
+use Prim.Native.Nat.{ℕ}
+use mathlib.Core.Path.{_≡_, refl, sym, ap, _∙_}
+use mathlib.Core.List.{List, [], _∷_}
+use mathlib.Core.Bool.{Bool, true, false, not, _||_}
+use Rattle.text.specs.declared.Number.the-variants as number
+use Rattle.text.specs.Lists.{anyOf}
+use Rattle.text.specs.Decimal.{decimalOf}
+use Rattle.text.proofs.Decimals.{is-decimal, no-decimal}
+use Rattle.terms.specs.declared.Mode.the-variants.{Out}
+use Rattle.terms.specs.Signs.{Sign, bare, escaped, quote, quoted, quotedEscaped, signs}
+use Rattle.terms.specs.Marks as marks
+use Rattle.words.specs.Words.{names, allName}
+use Rattle.forms.specs.Forms.{isKeep, isLevel, isMark, isPlace}
+
+pub keep-is : (t : List ℕ) (v : ℕ) → number.Is v ≡ decimalOf 4294967295 t → true ≡ isKeep t
+unfolding isKeep
+keep-is t v e = sym (is-decimal 4294967295 t v e .0)
+
+pub keep-not : (t : List ℕ) → number.No ≡ decimalOf 4294967295 t → false ≡ isKeep t
+unfolding isKeep
+keep-not t e = sym (no-decimal 4294967295 t e)
+
+pub level-keep : (t : List ℕ) → isKeep t ≡ true → true ≡ isLevel t
+unfolding isLevel
+level-keep t e = sym (rw e)
+
+pub level-all : (t : List ℕ) → isKeep t ≡ false → names allName t ≡ isLevel t
+unfolding isLevel
+level-all t e = sym (rw e)
+
+mark-same : (x : Sign) → marks.isMark x ≡ isMark x
+mark-same (bare b) = refl
+mark-same (escaped b) = refl
+mark-same quote = refl
+mark-same (quoted b) = refl
+mark-same (quotedEscaped b) = refl
+
+marks-same : (t : List Sign) → anyOf marks.isMark t ≡ anyOf isMark t
+unfolding anyOf
+marks-same [] = refl
+marks-same (x ∷ t) = rw (mark-same x, marks-same t)
+
+pub place-marks : (t : List ℕ) → not (marks.hasMark t) ≡ isPlace (signs Out t)
+unfolding marks.hasMark isPlace
+place-marks t = ap not (marks-same (signs Out t))

@@ -1,0 +1,338 @@
+-- The items of display and output, and those of a list, one by one, by their bytes. Assumes nothing.
+use Prim.Native.Nat.{ℕ, zero, suc, _+_, _-_, _<_, _≤_, min}
+use mathlib.Core.Path.{_≡_, refl, sym, ap, _∙_}
+use mathlib.Core.List.{List, [], _∷_, _++_, map}
+use mathlib.Core.Bool.{Bool, true, false, cond, not, _&&_, _||_}
+use mathlib.Core.Option.{Option, none, some}
+use native.Mathlib.Omega.{arith}
+use native.Mathlib.Numerals.{add-one}
+use lib.ListN.{length, getD, take, drop, length-take, length-drop, drop-of-length-le}
+use lib.Seq.{take-all, take-take, drop-drop, drop-cons}
+use lib.Dec.{eqb, leb}
+use borrow.Author.Tests.{eqb-true, eqb-false, ne-eqb}
+use Rattle.text.specs.Bytes.{bytes, oneOf}
+use Rattle.text.specs.Lists.{anyOf, upTo, parts, onto, isNil, given, every}
+use Rattle.text.proofs.Basics.{and-false, or-l, or-r, no-case}
+use Rattle.text.proofs.Slices.{part-from, drop-take}
+use Rattle.text.proofs.Scans.{drop-step}
+use Rattle.terms.specs.declared.Mode.{Mode}
+use Rattle.terms.specs.declared.Mode.the-variants.{Out, OutGrave, In, InGrave}
+use Rattle.terms.specs.Signs.{Sign, bare, escaped, quote, quoted, quotedEscaped, isBare, twelve, two, after, gives, atEnd, signs}
+use Rattle.forms.specs.Forms.{itemsIn, Entry, entryOf, entryParts, entriesOf}
+use Rattle.forms.specs.Automata.{isComma, opened, entryLen}
+use Rattle.forms.specs.Answers.{isSome, textIn, areEntriesIn}
+use Rattle.forms.specs.Steps.{bareAt, endsItem, itemLen, isEntryIn}
+use Rattle.forms.proofs.Lists.{taken-step}
+use Rattle.forms.proofs.TextLaws.{no-comma, no-open, no-close, items-close, items-comma, items-other, items-some}
+use Rattle.forms.proofs.PropertyLaws.{taken-part}
+
+-- ---- the items of display and output
+
+-- all of some signs go onto the first part
+ontoAll : List Sign → List (List Sign) → List (List Sign)
+ontoAll [] ps = ps
+ontoAll (x ∷ w) ps = onto x (ontoAll w ps)
+
+onto-cons : (a p : List Sign) (ps : List (List Sign)) → ontoAll a (p ∷ ps) ≡ (a ++ p) ∷ ps
+unfolding ontoAll
+onto-cons [] p ps = refl
+onto-cons (x ∷ a) p ps = ap (onto x) (onto-cons a p ps)
+
+byte-parts : (m : Mode) (l : Bool) (b : ℕ) (r : List Sign) → isComma m l b ≡ false
+    → entryParts l (gives m b ++ r) ≡ ontoAll (gives m b) (entryParts (opened m l b) r)
+unfolding gives entryParts ontoAll
+byte-parts Out l b r e = go (eqb b 96) (eqb b 34) refl refl
+  where
+    go : (x y : Bool) → eqb b 96 ≡ x → eqb b 34 ≡ y → entryParts l (gives Out b ++ r) ≡ ontoAll (gives Out b) (entryParts (opened Out l b) r)
+    go true y p q = let z = eqb-true b 96 p in simp (p, ne-eqb b 40 (λ k. omega arith), ne-eqb b 41 (λ k. omega arith))
+    go false true p q = let z = eqb-true b 34 q in simp (p, q, ne-eqb b 40 (λ k. omega arith), ne-eqb b 41 (λ k. omega arith), and-false (not l))
+    go false false p q = simp (p, q, e)
+byte-parts OutGrave l b r e = go (oneOf twelve b) refl
+  where
+    go : (x : Bool) → oneOf twelve b ≡ x → entryParts l (gives OutGrave b ++ r) ≡ ontoAll (gives OutGrave b) (entryParts l r)
+    go true p = simp (p, and-false (not l))
+    go false p = simp (p, no-comma b p, no-open b p, no-close b p, and-false (not l))
+byte-parts In l b r e = go (eqb b 96) (eqb b 34) refl refl
+  where
+    go : (x y : Bool) → eqb b 96 ≡ x → eqb b 34 ≡ y → entryParts l (gives In b ++ r) ≡ ontoAll (gives In b) (entryParts l r)
+    go true y p q = simp p
+    go false true p q = simp (p, q, and-false (not l))
+    go false false p q = simp (p, q, and-false (not l))
+byte-parts InGrave l b r e = go (oneOf two b) refl
+  where
+    go : (x : Bool) → oneOf two b ≡ x → entryParts l (gives InGrave b ++ r) ≡ ontoAll (gives InGrave b) (entryParts l r)
+    go true p = simp (p, and-false (not l))
+    go false p = simp (p, and-false (not l))
+
+end-parts : (m : Mode) (l : Bool) → entryParts l (atEnd m) ≡ atEnd m ∷ []
+unfolding entryParts
+end-parts Out l = refl
+end-parts OutGrave l = simp (and-false (not l))
+end-parts In l = refl
+end-parts InGrave l = simp (and-false (not l))
+
+-- what stands at the end of an item: nothing, or a comma and more items
+pub afterEntry : List ℕ → List (List Sign)
+afterEntry [] = []
+afterEntry (c ∷ r) = entryParts false (signs Out r)
+
+comma-parts : (m : Mode) (l : Bool) (b : ℕ) (s : List ℕ) → isComma m l b ≡ true → entryParts l (signs m (b ∷ s)) ≡ atEnd m ∷ entryParts false (signs Out s)
+unfolding signs gives after entryParts
+comma-parts Out true b s e = no-case (sym e)
+comma-parts Out false b s e = ap (λ k. entryParts false (gives Out k ++ signs (after Out k) s)) (eqb-true b 44 e)
+comma-parts OutGrave l b s e = no-case (sym e)
+comma-parts In l b s e = no-case (sym e)
+comma-parts InGrave l b s e = no-case (sym e)
+
+entry-by : (m : Mode) (l : Bool) (s : List ℕ)
+    → entryParts l (signs m s) ≡ signs m (take (entryLen m l s) s) ∷ afterEntry (drop (entryLen m l s) s)
+unfolding signs entryLen afterEntry
+entry-by m l [] = end-parts m l
+entry-by m l (b ∷ s) = go (isComma m l b) refl (entry-by (after m b) (opened m l b) s)
+  where
+    go : (x : Bool) → isComma m l b ≡ x
+        → entryParts (opened m l b) (signs (after m b) s)
+        ≡ signs (after m b) (take (entryLen (after m b) (opened m l b) s) s) ∷ afterEntry (drop (entryLen (after m b) (opened m l b) s) s)
+        → entryParts l (signs m (b ∷ s)) ≡ signs m (take (entryLen m l (b ∷ s)) (b ∷ s)) ∷ afterEntry (drop (entryLen m l (b ∷ s)) (b ∷ s))
+    go true e ih = rw e (comma-parts m l b s e)
+    go false e ih =
+        rw e (byte-parts m l b (signs (after m b) s) e ∙ ap (ontoAll (gives m b)) ih
+        ∙ onto-cons (gives m b) (signs (after m b) (take (entryLen (after m b) (opened m l b) s) s)) (afterEntry (drop (entryLen (after m b) (opened m l b) s) s)))
+
+-- the first item of display or output is that of its own bytes, and the rest follow the comma
+pub entry-first : (s : List ℕ) → entryParts false (signs Out s) ≡ signs Out (take (entryLen Out false s) s) ∷ afterEntry (drop (entryLen Out false s) s)
+entry-first s = entry-by Out false s
+
+-- an item is no longer than its text
+pub entry-within : (m : Mode) (l : Bool) (s : List ℕ) → entryLen m l s ≤ length s
+unfolding entryLen
+entry-within m l [] = omega arith
+entry-within m l (b ∷ s) = go (isComma m l b) (entry-within (after m b) (opened m l b) s)
+  where
+    go : (x : Bool) → entryLen (after m b) (opened m l b) s ≤ length s → cond x 0 (suc (entryLen (after m b) (opened m l b) s)) ≤ suc (length s)
+    go true h = omega arith
+    go false h = omega arith
+
+-- its only item, and the first of more; k bytes are the first item
+module _ (u : List ℕ) (k : ℕ) (e : k ≡ entryLen Out false u) where
+  pub parts-one : length u ≤ k → entryParts false (signs Out u) ≡ signs Out (take k u) ∷ []
+  unfolding afterEntry
+  parts-one h = entry-first u ∙ rw (← e, drop-of-length-le u h)
+
+  pub parts-rest : k < length u → entryParts false (signs Out u) ≡ signs Out (take k u) ∷ entryParts false (signs Out (drop (k + 1) u))
+  unfolding afterEntry
+  parts-rest h = entry-first u ∙ rw (← e, drop-step u k h)
+
+some-every : {A : Type 0} (o : Option A) (os : List (Option A)) → isSome (every (o ∷ os)) ≡ isSome o && isSome (every os)
+unfolding every
+some-every {A = A} none os = refl
+some-every {A = A} (some a) os = go (every os)
+  where
+    go : (r : Option (List A)) → isSome (given r (λ as′. some (a ∷ as′))) ≡ isSome r
+    go none = refl
+    go (some q) = refl
+
+module _ (u : List ℕ) (k : ℕ) (e : k ≡ entryLen Out false u) where
+  pub entries-one : length u ≤ k → isSome (entriesOf (signs Out u)) ≡ isSome (entryOf (signs Out (take k u)))
+  unfolding entriesOf
+  entries-one h =
+      ap (λ z. isSome (every (map entryOf z))) (parts-one u k e h) ∙ some-every (entryOf (signs Out (take k u))) [] ∙ unfold every in go (isSome (entryOf (signs Out (take k u))))
+    where
+      go : (b : Bool) → b && true ≡ b
+      go true = refl
+      go false = refl
+
+  pub entries-more : k < length u
+      → isSome (entriesOf (signs Out u)) ≡ isSome (entryOf (signs Out (take k u))) && isSome (entriesOf (signs Out (drop (k + 1) u)))
+  unfolding entriesOf
+  entries-more h =
+      ap (λ z. isSome (every (map entryOf z))) (parts-rest u k e h)
+      ∙ some-every (entryOf (signs Out (take k u))) (map entryOf (entryParts false (signs Out (drop (k + 1) u))))
+
+-- ---- a scan for the end of an item; the text is the first n bytes of s
+
+module _ (s : List ℕ) (n i : ℕ) (m : Mode) (l : Bool) where
+  pub entry-on : (m′ : Mode) (l′ : Bool) → i < length (take n s) → isComma m l (getD s i 0) ≡ false → l′ ≡ opened m l (getD s i 0) → m′ ≡ after m (getD s i 0)
+      → entryLen m l (drop i (take n s)) ≡ suc (entryLen m′ l′ (drop (i + 1) (take n s)))
+  unfolding entryLen
+  entry-on m′ l′ h c e f = ap (entryLen m l) (taken-step s n i h) ∙ rw (c, e, f)
+
+  pub entry-ends : i < length (take n s) → isComma m l (getD s i 0) ≡ true → entryLen m l (drop i (take n s)) ≡ 0
+  unfolding entryLen
+  entry-ends h c = ap (entryLen m l) (taken-step s n i h) ∙ rw c
+
+  pub entry-past : length (take n s) ≤ i → entryLen m l (drop i (take n s)) ≡ 0
+  unfolding entryLen
+  entry-past h = ap (entryLen m l) (drop-of-length-le (take n s) h)
+
+pub comma-listed : (m : Mode) (b : ℕ) → false ≡ isComma m true b
+comma-listed Out b = refl
+comma-listed OutGrave b = refl
+comma-listed In b = refl
+comma-listed InGrave b = refl
+
+pub comma-bare : (m : Mode) (b : ℕ) → bareAt 44 m b ≡ isComma m false b
+comma-bare Out b = refl
+comma-bare OutGrave b = refl
+comma-bare In b = refl
+comma-bare InGrave b = refl
+
+pub opened-by : (m : Mode) (l : Bool) (b : ℕ) → opened m l b ≡ cond (bareAt 40 m b) true (cond (bareAt 41 m b) false l)
+opened-by Out l b = refl
+opened-by OutGrave l b = refl
+opened-by In l b = refl
+opened-by InGrave l b = refl
+
+-- ---- the loop over the items: the part from a place on, cut to the text's end, is the text from there on
+
+module _ (s : List ℕ) (n e at : ℕ) (z : e ≡ length (take n s)) where
+  pub part-left : take (e - at) (take (length s - at) (drop at s)) ≡ drop at (take n s)
+  part-left = ap (take (e - at)) (part-from s at) ∙ sym (drop-take at e s) ∙ ap (drop at) (taken-part s n e z)
+
+  -- the first k bytes of that part, within the text
+  pub part-front : (k : ℕ) → k ≤ length (drop at (take n s)) → take k (take (length s - at) (drop at s)) ≡ take k (drop at (take n s))
+  part-front k h =
+      let d = length-drop at (take n s) in
+      let l = length-take n s in
+      ap (take k) (part-from s at) ∙ sym (take-take k (n - at) (drop at s) (omega arith)) ∙ ap (take k) (sym (drop-take at n s))
+
+  module _ (k : ℕ) (w : k ≡ entryLen Out false (take (e - at) (take (length s - at) (drop at s)))) where
+    first : k ≡ entryLen Out false (drop at (take n s))
+    first = w ∙ ap (entryLen Out false) part-left
+
+    short : k ≤ length (drop at (take n s))
+    short = let q = entry-within Out false (drop at (take n s)) in omega (arith, first)
+
+    pub entry-end : at ≤ e → at + k ≤ e
+    entry-end h = let d = length-drop at (take n s) in omega (arith, short)
+
+    module _ (r : Bool) (j : r ≡ isEntryIn (take (length s - at) (drop at s)) k) where
+      one : r ≡ isSome (entryOf (signs Out (take k (drop at (take n s)))))
+      unfolding isEntryIn
+      one = j ∙ ap (λ (q : List ℕ). isSome (entryOf (signs Out q))) (part-front k short)
+
+      pub entries-last : at + k ≡ e → r ≡ isSome (entriesOf (signs Out (drop at (take n s))))
+      entries-last h =
+          let d = length-drop at (take n s) in
+          one ∙ sym (entries-one (drop at (take n s)) k first (omega arith))
+
+      more : at ≤ e → (at + k ≡ e → ⊥) → isSome (entriesOf (signs Out (drop at (take n s)))) ≡ r && isSome (entriesOf (signs Out (drop (at + k + 1) (take n s))))
+      more h f =
+          let d = length-drop at (take n s) in
+          let b : k < length (drop at (take n s)) = let q = entry-end h in omega (arith, f) in
+          let a : at + (k + 1) ≡ at + k + 1 = omega arith in
+          entries-more (drop at (take n s)) k first b
+          ∙ ap (λ (q : List ℕ). isSome (entryOf (signs Out (take k (drop at (take n s))))) && isSome (entriesOf (signs Out q))) (drop-drop (k + 1) at (take n s) ∙ ap (λ (i : ℕ). drop i (take n s)) a)
+          ∙ ap (λ (q : Bool). q && isSome (entriesOf (signs Out (drop (at + k + 1) (take n s))))) (sym one)
+
+      pub entries-next : at ≤ e → (at + k ≡ e → ⊥) → r ≡ true → isSome (entriesOf (signs Out (drop (at + k + 1) (take n s)))) ≡ isSome (entriesOf (signs Out (drop at (take n s))))
+      entries-next h f t = sym (more h f ∙ rw t)
+
+      pub entries-bad : at ≤ e → r ≡ false → isSome (entriesOf (signs Out (drop at (take n s)))) ≡ false
+      entries-bad h t = go (eqb (at + k) e) refl
+        where
+          go : (x : Bool) → eqb (at + k) e ≡ x → isSome (entriesOf (signs Out (drop at (take n s)))) ≡ false
+          go true p = sym (entries-last (eqb-true (at + k) e p)) ∙ t
+          go false p = more h (eqb-false (at + k) e p) ∙ rw t
+
+-- ---- the items of a list: s is what follows the opening parenthesis
+
+-- what stands at the end of an item: a comma and more items, or nothing that counts
+pub afterItem : List ℕ → List (List Sign)
+afterItem [] = []
+afterItem (c ∷ r) = cond (eqb c 44) (itemsIn (signs Out r)) []
+
+byte-items : (m : Mode) (b : ℕ) (r : List Sign) → endsItem m b ≡ false → itemsIn (gives m b ++ r) ≡ ontoAll (gives m b) (itemsIn r)
+unfolding gives ontoAll
+byte-items Out b r e = go (eqb b 96) (eqb b 34) refl refl
+  where
+    go : (x y : Bool) → eqb b 96 ≡ x → eqb b 34 ≡ y → itemsIn (gives Out b ++ r) ≡ ontoAll (gives Out b) (itemsIn r)
+    go true y p q = simp p
+    go false true p q = simp (p, q) (items-other quote r refl refl)
+    go false false p q = simp (p, q) (items-other (bare b) r (or-r (eqb b 44) (eqb b 41) e) (or-l (eqb b 44) (eqb b 41) e))
+byte-items OutGrave b r e = go (oneOf twelve b) refl
+  where
+    go : (x : Bool) → oneOf twelve b ≡ x → itemsIn (gives OutGrave b ++ r) ≡ ontoAll (gives OutGrave b) (itemsIn r)
+    go true p = simp p (items-other (escaped b) r refl refl)
+    go false p = simp p (items-other (bare 96) (bare b ∷ r) refl refl ∙ ap (onto (bare 96)) (items-other (bare b) r (no-close b p) (no-comma b p)))
+byte-items In b r e = go (eqb b 96) (eqb b 34) refl refl
+  where
+    go : (x y : Bool) → eqb b 96 ≡ x → eqb b 34 ≡ y → itemsIn (gives In b ++ r) ≡ ontoAll (gives In b) (itemsIn r)
+    go true y p q = simp p
+    go false true p q = simp (p, q) (items-other quote r refl refl)
+    go false false p q = simp (p, q) (items-other (quoted b) r refl refl)
+byte-items InGrave b r e = go (oneOf two b) refl
+  where
+    go : (x : Bool) → oneOf two b ≡ x → itemsIn (gives InGrave b ++ r) ≡ ontoAll (gives InGrave b) (itemsIn r)
+    go true p = simp p (items-other (quotedEscaped b) r refl refl)
+    go false p = simp p (items-other (quoted 96) (quoted b ∷ r) refl refl ∙ ap (onto (quoted 96)) (items-other (quoted b) r refl refl))
+
+end-items : (m : Mode) → itemsIn (atEnd m) ≡ atEnd m ∷ []
+unfolding itemsIn upTo parts
+end-items Out = refl
+end-items OutGrave = refl
+end-items In = refl
+end-items InGrave = refl
+
+stop-items : (m : Mode) (b : ℕ) (s : List ℕ) → endsItem m b ≡ true → itemsIn (signs m (b ∷ s)) ≡ atEnd m ∷ afterItem (b ∷ s)
+unfolding signs gives after afterItem
+stop-items Out b s e = go (eqb b 44) refl e
+  where
+    go : (x : Bool) → eqb b 44 ≡ x → x || eqb b 41 ≡ true → itemsIn (gives Out b ++ signs (after Out b) s) ≡ [] ∷ cond (eqb b 44) (itemsIn (signs Out s)) []
+    go true p q =
+        rw p (ap (λ k. itemsIn (gives Out k ++ signs (after Out k) s)) (eqb-true b 44 p) ∙ items-comma (bare 44) (signs Out s) refl refl)
+    go false p q =
+        rw p (ap (λ k. itemsIn (gives Out k ++ signs (after Out k) s)) (eqb-true b 41 q) ∙ items-close (bare 41) (signs Out s) refl)
+stop-items OutGrave b s e = no-case (sym e)
+stop-items In b s e = no-case (sym e)
+stop-items InGrave b s e = no-case (sym e)
+
+item-by : (m : Mode) (s : List ℕ) → itemsIn (signs m s) ≡ signs m (take (itemLen m s) s) ∷ afterItem (drop (itemLen m s) s)
+unfolding signs itemLen afterItem
+item-by m [] = end-items m
+item-by m (b ∷ s) = go (endsItem m b) refl (item-by (after m b) s)
+  where
+    go : (x : Bool) → endsItem m b ≡ x
+        → itemsIn (signs (after m b) s) ≡ signs (after m b) (take (itemLen (after m b) s) s) ∷ afterItem (drop (itemLen (after m b) s) s)
+        → itemsIn (signs m (b ∷ s)) ≡ signs m (take (itemLen m (b ∷ s)) (b ∷ s)) ∷ afterItem (drop (itemLen m (b ∷ s)) (b ∷ s))
+    go true e ih = rw e (stop-items m b s e)
+    go false e ih =
+        rw e (byte-items m b (signs (after m b) s) e ∙ ap (ontoAll (gives m b)) ih
+        ∙ onto-cons (gives m b) (signs (after m b) (take (itemLen (after m b) s) s)) (afterItem (drop (itemLen (after m b) s) s)))
+
+-- the first item of a list is that of its own bytes, and the rest follow the comma
+pub item-first : (s : List ℕ) → itemsIn (signs Out s) ≡ signs Out (take (itemLen Out s) s) ∷ afterItem (drop (itemLen Out s) s)
+item-first s = item-by Out s
+
+pub item-within : (m : Mode) (s : List ℕ) → itemLen m s ≤ length s
+unfolding itemLen
+item-within m [] = omega arith
+item-within m (b ∷ s) = go (endsItem m b) (item-within (after m b) s)
+  where
+    go : (x : Bool) → itemLen (after m b) s ≤ length s → cond x 0 (suc (itemLen (after m b) s)) ≤ suc (length s)
+    go true h = omega arith
+    go false h = omega arith
+
+-- by places: a comma follows its first k bytes, a parenthesis does, or nothing
+module _ (u : List ℕ) (k : ℕ) (e : k ≡ itemLen Out u) where
+  pub item-more : k < length u → getD u k 0 ≡ 44 → itemsIn (signs Out u) ≡ signs Out (take k u) ∷ itemsIn (signs Out (drop (k + 1) u))
+  unfolding afterItem
+  item-more h c = item-first u ∙ rw (← e, drop-step u k h, c)
+
+  pub item-last : k < length u → (getD u k 0 ≡ 44 → ⊥) → itemsIn (signs Out u) ≡ signs Out (take k u) ∷ []
+  unfolding afterItem
+  item-last h c = item-first u ∙ rw (← e, drop-step u k h, ne-eqb (getD u k 0) 44 c)
+
+module _ (s : List ℕ) (n i : ℕ) (m : Mode) where
+  pub item-on : (m′ : Mode) → i < length (take n s) → endsItem m (getD s i 0) ≡ false → m′ ≡ after m (getD s i 0)
+      → itemLen m (drop i (take n s)) ≡ suc (itemLen m′ (drop (i + 1) (take n s)))
+  unfolding itemLen
+  item-on m′ h c f = ap (itemLen m) (taken-step s n i h) ∙ rw (c, f)
+
+  pub item-ends : i < length (take n s) → endsItem m (getD s i 0) ≡ true → itemLen m (drop i (take n s)) ≡ 0
+  unfolding itemLen
+  item-ends h c = ap (itemLen m) (taken-step s n i h) ∙ rw c
+
+  pub item-past : length (take n s) ≤ i → itemLen m (drop i (take n s)) ≡ 0
+  unfolding itemLen
+  item-past h = ap (itemLen m) (drop-of-length-le (take n s) h)

@@ -1,0 +1,73 @@
+-- `forms::is_entry` meets its contract. Assumes nothing.
+use Prim.Native.Nat.{_≤_, _+_}
+use mathlib.Core.Path.{_≡_, sym, ap, _∙_}
+use native.Mathlib.Omega.{arith}
+use borrow.Author.Tests.{not-true, not-false}
+use borrow.Author.Needs.{needs}
+use lib.ListN.{length}
+use Rattle.forms.proofs.PropertyLaws.{entry-unnamed, entry-mere, entry-not, entry-one, value-within}
+use Rattle.forms.proofs.is_entry.Statement.{statement}
+use Rattle.forms.proofs.is_entry.Tie as tie
+use Rattle.forms.proofs.is_entry.Reads as reads
+use Rattle.forms.proofs.is_entry.Lts as lts
+use Rattle.forms.proofs.end_of.Reads as end-of-reads
+use Rattle.forms.proofs.is_equal.Reads as is-equal-reads
+use Rattle.forms.proofs.is_value.Reads as is-value-reads
+use Rattle.forms.proofs.name_len.Reads as name-len-reads
+
+name-len-requires : tie.Need-name-len-requires
+name-len-requires c κs = search needs
+
+returns : tie.Need-returns
+returns c = entry-unnamed (c .before .before .before .args .s .now) (c .before .before .before .args .n) (c .before .name-len .result) (c .before .name-len .ensures) (c .if1 .taken)
+
+end-of-requires : tie.Need-end-of-requires
+end-of-requires c κs = search needs
+
+returns-2 : tie.Need-returns-2
+returns-2 c = entry-mere (c .before .before .before .before .before .args .s .now) (c .before .before .before .before .before .args .n) (c .before .before .before .name-len .result) (c .before .before .before .name-len .ensures) (c .before .before .if1 .left) (c .if2 .taken ∙ c .before .end-of .ensures)
+
+is-equal-requires : tie.Need-is-equal-requires
+is-equal-requires c κs = search needs
+
+returns-3 : tie.Need-returns-3
+returns-3 c = entry-not (c .before .before .before .before .before .before .before .args .s .now) (c .before .before .before .before .before .before .before .args .n) (c .before .before .before .before .before .name-len .result) (c .before .before .before .before .before .name-len .ensures) (c .before .before .before .before .if1 .left) (λ z. c .before .before .if2 .left (z ∙ sym (c .before .before .before .end-of .ensures))) (sym (c .before .is-equal .ensures) ∙ not-true _ (c .if3 .taken))
+
+add-v : tie.Need-add-v
+add-v c = let w = value-within (c .before .before .before .before .before .before .before .args .s .now) (c .before .before .before .before .before .before .before .args .n) (c .before .before .before .before .before .name-len .result) (c .before .before .before .before .before .name-len .ensures) (c .before .before .before .before .if1 .left) (λ z. c .before .before .if2 .left (z ∙ sym (c .before .before .before .end-of .ensures))) (sym (c .before .is-equal .ensures) ∙ not-false _ (c .if3 .left)) in omega (arith, w)
+
+sub-is-value : tie.Need-sub-is-value
+sub-is-value c = let w = value-within (c .before .before .before .before .before .before .before .args .s .now) (c .before .before .before .before .before .before .before .args .n) (c .before .before .before .before .before .name-len .result) (c .before .before .before .before .before .name-len .ensures) (c .before .before .before .before .if1 .left) (λ z. c .before .before .if2 .left (z ∙ sym (c .before .before .before .end-of .ensures))) (sym (c .before .is-equal .ensures) ∙ not-false _ (c .if3 .left)) in omega (arith, w)
+
+part-is-value-start : tie.Need-part-is-value-start
+part-is-value-start c = let w = value-within (c .before .before .before .before .before .before .before .args .s .now) (c .before .before .before .before .before .before .before .args .n) (c .before .before .before .before .before .name-len .result) (c .before .before .before .before .before .name-len .ensures) (c .before .before .before .before .if1 .left) (λ z. c .before .before .if2 .left (z ∙ sym (c .before .before .before .end-of .ensures))) (sym (c .before .is-equal .ensures) ∙ not-false _ (c .if3 .left)) in let h : c .before .before .before .before .before .name-len .result + 1 ≤ length (c .before .before .before .before .before .before .before .args .s .now) = w .0 in search needs
+
+part-is-value-end : tie.Need-part-is-value-end
+part-is-value-end c = search needs
+
+sub-is-value-2 : tie.Need-sub-is-value-2
+sub-is-value-2 c = let w = value-within (c .before .before .before .before .before .before .before .before .args .s .now) (c .before .before .before .before .before .before .before .before .args .n) (c .before .before .before .before .before .before .name-len .result) (c .before .before .before .before .before .before .name-len .ensures) (c .before .before .before .before .before .if1 .left) (λ z. c .before .before .before .if2 .left (z ∙ sym (c .before .before .before .before .end-of .ensures))) (sym (c .before .before .is-equal .ensures) ∙ not-false _ (c .before .if3 .left)) in omega (arith, w)
+
+is-value-requires : tie.Need-is-value-requires
+is-value-requires c κs = search needs
+
+returns-4 : tie.Need-returns-4
+returns-4 c = entry-one (c .before .before .before .before .before .before .before .before .before .args .s .now) (c .before .before .before .before .before .before .before .before .before .args .n) (c .before .before .before .before .before .before .before .name-len .result) (c .before .before .before .before .before .before .before .name-len .ensures) (c .before .before .before .before .before .before .if1 .left) (λ z. c .before .before .before .before .if2 .left (z ∙ sym (c .before .before .before .before .before .end-of .ensures))) (c .is-value .result) (sym (c .before .before .before .is-equal .ensures) ∙ not-false _ (c .before .before .if3 .left)) (c .is-value .ensures)
+
+pub is-entry-spec : {M : Type 1} → statement M
+is-entry-spec =
+    tie.close
+    (tie.spec
+    name-len-requires
+    returns
+    end-of-requires
+    returns-2
+    is-equal-requires
+    returns-3
+    add-v
+    sub-is-value
+    part-is-value-start
+    part-is-value-end
+    sub-is-value-2
+    is-value-requires
+    returns-4)

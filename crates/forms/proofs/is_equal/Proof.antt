@@ -1,0 +1,29 @@
+-- `forms::is_equal` meets its contract. Assumes nothing.
+use mathlib.Core.Path.{_≡_, sym, ap, _∙_}
+use native.Mathlib.Omega.{arith}
+use borrow.Author.Tests.{lt-ltb, le-ltb}
+use borrow.Author.Needs.{needs}
+use lib.Seq.{getD-take}
+use lib.ListN.{length, take, getD}
+use Rattle.forms.proofs.PropertyLaws.{equal-within, equal-past}
+use Rattle.forms.proofs.Lists.{taken-within}
+use Rattle.forms.proofs.is_equal.Statement.{statement}
+use Rattle.forms.proofs.is_equal.Tie as tie
+use Rattle.forms.proofs.is_equal.Reads as reads
+use Rattle.forms.proofs.is_equal.Lts as lts
+use Rattle.forms.proofs.end_of.Reads as end-of-reads
+
+end-of-requires : tie.Need-end-of-requires
+end-of-requires c κs = search needs
+
+shared-slice-read-result : tie.Need-shared-slice-read-result
+shared-slice-read-result c = taken-within (c .before .before .before .before .args .s .now) (c .before .before .before .before .args .n) (c .before .before .before .before .args .v) (omega (arith, c .before .before .end-of .ensures))
+
+returns : tie.Need-returns
+returns c = equal-within (c .before .before .before .before .args .s .now) (c .before .before .before .before .args .n) (c .before .before .before .before .args .v) (omega (arith, c .before .before .end-of .ensures))
+
+returns-2 : tie.Need-returns-2
+returns-2 c = equal-past (c .before .before .before .args .s .now) (c .before .before .before .args .n) (c .before .before .before .args .v) (omega (arith, c .before .end-of .ensures))
+
+pub is-equal-spec : {M : Type 1} → statement M
+is-equal-spec = tie.close (tie.spec end-of-requires shared-slice-read-result returns returns-2)
