@@ -2,3 +2,4 @@ pub mod Answers
 pub mod Trust
 pub mod Lister
 pub mod Words
+pub mod Steps

@@ -1,0 +1,124 @@
+-- `capture::write_text` meets its contract.
+use mathlib.Core.Path.{_≡_, refl, sym, ap, _∙_}
+use Prim.Native.Nat.{ℕ, suc, _+_, _-_, _≤_, _<_}
+use native.Mathlib.Omega.{arith}
+use native.Mathlib.Nat.{add-zero}
+use mathlib.Core.List.{List, []}
+use lib.ListN.{length, getD, take, drop}
+use lib.Seq.{sets}
+use borrow.Author.Needs.{needs}
+use Rattle.capture.specs.Words.{formOf, forms, total, fieldOf, fieldsText, textOf, textAnswer, textRoom}
+use Rattle.capture.specs.Steps.{wordBy, lenBy, firstText, fieldText, rowFields, textAt, flawIn, textIn, answerFrom, answerPast}
+use Rattle.text.specs.declared.Verdict.the-variants.{Fine}
+use Rattle.capture.specs.Answers.{Told}
+use Rattle.capture.proofs.TextLaws.{text-start, text-bad, text-within, first-from, length-on, flaw-on, sets-on, text-end}
+use Rattle.capture.proofs.write_text.Statement.{statement}
+use Rattle.capture.proofs.write_text.Tie as tie
+use Rattle.capture.proofs.write_text.Reads as reads
+use Rattle.capture.proofs.write_text.Lts as lts
+use Rattle.capture.proofs.put_record.Reads as put-record-reads
+use Rattle.capture.proofs.record_len.Reads as record-len-reads
+
+abbrev Inv-loop : tie.InvT-loop
+Inv-loop records out₀ p₀ at₀ out p at =
+    (p ≤ length records)
+    × (length out ≡ length out₀)
+    × (flawIn (textAt p records) ≡ Fine)
+    × (at + length (textIn (textAt p records)) ≤ length out₀)
+    × (sets out at (textIn (textAt p records)) ≡ sets out₀ 0 (textIn (textOf records)))
+
+abbrev μ-loop : tie.MeasureT-loop
+μ-loop records out₀ p₀ at₀ out p at = length records - p
+
+loop-holds : tie.Need-loop-holds Inv-loop μ-loop
+loop-holds c =
+    let a = c .before .before .args in let e = text-start (a .records .now) in
+    (omega arith, refl, ap flawIn e ∙ c .before .before .pre .0, omega (arith, ap (λ (u : Told). length (textIn u)) e, c .before .before .pre .1), ap (λ (u : Told). sets (a .out .now) 0 (textIn u)) e)
+
+shared-slice-read-record-len : tie.Need-shared-slice-read-record-len Inv-loop μ-loop
+shared-slice-read-record-len c = omega arith
+
+sub-record-len : tie.Need-sub-record-len Inv-loop μ-loop
+sub-record-len c = omega arith
+
+record-len-requires : tie.Need-record-len-requires Inv-loop μ-loop
+record-len-requires c κs = tt
+
+same-length : tie.Need-same-length Inv-loop μ-loop
+same-length c = c .before .before .before .before .loop .inv .1
+
+returns : tie.Need-returns Inv-loop μ-loop
+returns c =
+    let a = c .before .before .before .before .before .before .before .args in let l = c .before .before .before .before .loop in let r = c .before .record-len in let h = c .before .before .before .loop-test .taken in
+    sym (ap (λ (u : Told). sets (l .out) (l .at) (textIn u)) (text-bad (a .records .now) (l .p) (r .result) h (r .ensures) (c .if1 .taken))) ∙ l .inv .4
+
+sub-put-record : tie.Need-sub-put-record Inv-loop μ-loop
+sub-put-record c = omega arith
+
+part-put-record-start : tie.Need-part-put-record-start Inv-loop μ-loop
+part-put-record-start c = omega arith
+
+part-put-record-end : tie.Need-part-put-record-end Inv-loop μ-loop
+part-put-record-end c = omega arith
+
+put-record-requires : tie.Need-put-record-requires Inv-loop μ-loop
+put-record-requires c κs =
+    let a = c .before .before .before .before .before .before .before .before .before .args in let l = c .before .before .before .before .before .before .loop in let r = c .before .before .before .record-len in let h = c .before .before .before .before .before .loop-test .taken in let w = c .before .before .if1 .left in
+    (first-from (a .records .now) (l .p) (r .result) h (r .ensures) w, omega (arith, l .inv .3, l .inv .1, length-on (a .records .now) (l .p) (r .result) h (r .ensures) w (l .inv .2) _ refl))
+
+add-at : tie.Need-add-at Inv-loop μ-loop
+add-at c =
+    let a = c .before .before .before .before .before .before .before .before .before .before .before .before .args in let l = c .before .before .before .before .before .before .before .before .before .loop in let r = c .before .before .before .before .before .before .record-len in let h = c .before .before .before .before .before .before .before .before .loop-test .taken in let w = c .before .before .before .before .before .if1 .left in
+    omega (arith, l .inv .3, l .inv .1, length-on (a .records .now) (l .p) (r .result) h (r .ensures) w (l .inv .2) (c .before .before .put-record .result) (c .before .before .put-record .ensures .0))
+
+add-p : tie.Need-add-p Inv-loop μ-loop
+add-p c =
+    let a = c .before .before .before .before .before .before .before .before .before .before .before .before .args in let l = c .before .before .before .before .before .before .before .before .before .loop in let r = c .before .before .before .before .before .before .record-len in let h = c .before .before .before .before .before .before .before .before .loop-test .taken in let w = c .before .before .before .before .before .if1 .left in
+    omega (arith, text-within (a .records .now) (l .p) (r .result) h (r .ensures) w .1)
+
+loop-less : tie.Need-loop-less Inv-loop μ-loop
+loop-less c =
+    let a = c .before .before .before .before .before .before .before .before .before .before .before .before .args in let l = c .before .before .before .before .before .before .before .before .before .loop in let r = c .before .before .before .before .before .before .record-len in let h = c .before .before .before .before .before .before .before .before .loop-test .taken in let w = c .before .before .before .before .before .if1 .left in
+    omega (arith, text-within (a .records .now) (l .p) (r .result) h (r .ensures) w .0, text-within (a .records .now) (l .p) (r .result) h (r .ensures) w .1)
+
+loop-again : tie.Need-loop-again Inv-loop μ-loop
+loop-again c =
+    let a = c .before .before .before .before .before .before .before .before .before .before .before .before .args in let l = c .before .before .before .before .before .before .before .before .before .loop in let r = c .before .before .before .before .before .before .record-len in let h = c .before .before .before .before .before .before .before .before .loop-test .taken in let w = c .before .before .before .before .before .if1 .left in
+    let v = c .before .before .put-record in (
+      text-within (a .records .now) (l .p) (r .result) h (r .ensures) w .1,
+      v .kept .0 ∙ l .inv .1,
+      flaw-on (a .records .now) (l .p) (r .result) h (r .ensures) w ∙ l .inv .2,
+      omega (arith, l .inv .3, length-on (a .records .now) (l .p) (r .result) h (r .ensures) w (l .inv .2) (v .result) (v .ensures .0)),
+      sets-on (a .records .now) (l .p) (r .result) h (r .ensures) w (l .inv .2) (v .result) (v .ensures .0) (l .at) (l .out) (v .last .0) _ (l .inv .4) (v .ensures .1),
+    )
+
+same-length-2 : tie.Need-same-length-2 Inv-loop μ-loop
+same-length-2 c = c .before .loop .inv .1
+
+returns-2 : tie.Need-returns-2 Inv-loop μ-loop
+returns-2 c =
+    let a = c .before .before .before .before .args in let l = c .before .loop in
+    sym (ap (λ (u : Told). sets (l .out) (l .at) (textIn u)) (text-end (a .records .now) (l .p) (omega arith))) ∙ l .inv .4
+
+pub write-text-spec : {M : Type 1} → statement M
+write-text-spec =
+    tie.close
+    (tie.spec
+    Inv-loop
+    μ-loop
+    loop-holds
+    shared-slice-read-record-len
+    sub-record-len
+    record-len-requires
+    same-length
+    returns
+    sub-put-record
+    part-put-record-start
+    part-put-record-end
+    put-record-requires
+    add-at
+    add-p
+    loop-less
+    loop-again
+    same-length-2
+    returns-2)
