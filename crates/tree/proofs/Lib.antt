@@ -4,3 +4,7 @@ pub mod UpLaws
 pub mod StepLaws
 pub mod FollowLaws
 pub mod GiveLaws
+pub mod ResolveLaws
+pub mod PathLaws
+pub mod Only
+pub mod Examples

@@ -2,3 +2,4 @@ pub mod Tree
 pub mod Path
 pub mod Resolve
 pub mod Steps
+pub mod Ways
