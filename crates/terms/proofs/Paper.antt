@@ -2,15 +2,15 @@
 -- Assumes nothing.
 use Prim.Native.Nat.{ℕ}
 use mathlib.Core.Path.{_≡_, refl, sym, ap, _∙_}
-use mathlib.Core.List.{List, [], _∷_, _++_}
-use mathlib.Core.Bool.{Bool, true, false, cond, not, _&&_}
+use mathlib.Core.List.{List, [], _∷_}
+use mathlib.Core.Bool.{Bool, true, false}
 use lib.Dec.{eqb}
 use borrow.Author.Tests.{eqb-true}
 use Rattle.text.specs.Bytes.{bytes, oneOf}
 use Rattle.text.proofs.Basics.{no-case}
 use Rattle.terms.specs.declared.Mode.{Mode}
-use Rattle.terms.specs.declared.Mode.the-variants.{Out, OutGrave, In, InGrave}
-use Rattle.terms.specs.Signs.{Sign, bare, escaped, quote, quoted, quotedEscaped, twelve, two, escapable, pairSign, oneSign, openAfter, paperSigns, after, gives, atEnd, signs}
+use Rattle.terms.specs.declared.Mode.the-variants.{Out, In}
+use Rattle.terms.specs.Signs.{Sign, bare, escaped, quote, quoted, quotedEscaped, twelve, two, oneSign, paperSigns, after, gives, signs}
 
 -- a byte that is none of some is not one of them
 pub none-of : (ns : List ℕ) (k b : ℕ) → oneOf ns k ≡ true → oneOf ns b ≡ false → eqb b k ≡ false

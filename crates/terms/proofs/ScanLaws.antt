@@ -8,20 +8,18 @@ use native.Mathlib.Nat.{add-sub-cancel-left}
 use lib.ListN.{length, getD, drop, drop-of-length-le, length-append}
 use lib.Seq.{sets}
 use lib.Dec.{eqb}
-use borrow.Author.Tests.{eqb-true, ne-eqb, eq-eqb}
-use Rattle.text.specs.declared.Verdict.{Verdict}
+use borrow.Author.Tests.{eqb-true, ne-eqb}
 use Rattle.text.specs.Bytes.{oneOf}
-use Rattle.text.specs.Lists.{anyOf, runLen, walk}
+use Rattle.text.specs.Lists.{anyOf, walk}
 use Rattle.text.proofs.Scans.{drop-step}
 use Rattle.text.proofs.Writes.{sets-append}
 use Rattle.terms.specs.declared.Mode.{Mode}
 use Rattle.terms.specs.declared.Mode.the-variants.{Out, OutGrave, In, InGrave}
-use Rattle.terms.specs.declared.Found.{Found}
 use Rattle.terms.specs.declared.Found.the-variants as found
-use Rattle.terms.specs.Signs.{Sign, bare, escaped, quote, quoted, quotedEscaped, twelve, two, after, gives, atEnd, signs, standsFor, stands, meant, isBare, hasBare}
-use Rattle.terms.specs.Marks.{isMark, hasMark, firstBare, startsBare}
+use Rattle.terms.specs.Signs.{Sign, twelve, two, after, gives, atEnd, signs, stands, meant, isBare}
+use Rattle.terms.specs.Marks.{isMark, firstBare, startsBare}
 use Rattle.terms.specs.Rows.{endMode, opens, openedAt, endFlaw, openFlaw}
-use Rattle.terms.specs.Scan.{isSpace, gapByte, termLen, found, startAt, termAt}
+use Rattle.terms.specs.Scan.{gapByte, termLen, found, startAt, termAt}
 use Rattle.terms.proofs.TermLaws.{pend, stands-on, stands-past, meant-length}
 
 -- ---- the term at a place

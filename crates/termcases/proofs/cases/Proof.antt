@@ -1,6 +1,6 @@
 -- `termcases::cases` is safe and ends: each case lies inside the input. Assumes nothing.
 use borrow.Author.Needs.{needs}
-use Prim.Native.Nat.{_+_, _≤_, _-_}
+use Prim.Native.Nat.{_≤_, _-_}
 use lib.ListN.{length}
 use Rattle.termcases.proofs.cases.Statement.{statement}
 use Rattle.termcases.proofs.cases.Tie as tie

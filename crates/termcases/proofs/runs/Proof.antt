@@ -1,6 +1,6 @@
 -- `termcases::runs` is safe and ends: each run has a byte or more and stays inside the bytes. Assumes nothing.
 use borrow.Author.Needs.{needs}
-use Prim.Native.Nat.{_+_, _≤_, _-_}
+use Prim.Native.Nat.{_≤_, _-_}
 use lib.ListN.{length}
 use Rattle.termcases.proofs.runs.Statement.{statement}
 use Rattle.termcases.proofs.runs.Tie as tie

@@ -1,6 +1,6 @@
 -- `terms::grave_bare` meets its contract.
-use borrow.Author.Tests.{eq-eqb, ne-eqb}
-use mathlib.Core.Path.{_≡_, sym, ap, _∙_}
+use borrow.Author.Tests.{eq-eqb}
+use mathlib.Core.Path.{sym, _∙_}
 use Rattle.text.specs.Lists.{anyOf}
 use Rattle.terms.specs.Signs.{gives}
 use Rattle.terms.proofs.ScanLaws.{grave-is-bare}

@@ -1,8 +1,7 @@
 -- `terms::has_quote` meets its contract. The loop's invariant: the answer for what is left is the answer.
 use borrow.Author.Needs.{needs}
-use Prim.Native.Nat.{_+_, _-_}
+use Prim.Native.Nat.{_-_}
 use mathlib.Core.Path.{_≡_, refl, sym, _∙_}
-use native.Mathlib.Omega.{arith}
 use lib.ListN.{length, drop}
 use Rattle.text.specs.Lists.{anyOf}
 use Rattle.terms.specs.declared.Mode.the-variants.{Out}

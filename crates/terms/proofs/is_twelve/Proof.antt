@@ -1,5 +1,6 @@
+-- `terms::is_twelve` meets its contract.
 use borrow.Author.Tests.{ne-eqb}
-use mathlib.Core.Path.{_≡_, sym, ap, _∙_}
+use mathlib.Core.Path.{sym, ap}
 use Rattle.text.specs.Bytes.{oneOf, bytes}
 use Rattle.terms.specs.Signs.{twelve}
 use Rattle.terms.proofs.is_twelve.Statement.{statement}

@@ -1,5 +1,4 @@
 -- `terms::lexical` meets its contract: each test and each callee's result stands in `lexicalOf`.
-use mathlib.Core.Path.{sym, _∙_}
 use borrow.Author.Tests.{le-ltb, lt-ltb}
 use Rattle.terms.specs.Rows.{longFlaw, oddFlaw, lexicalOf}
 use borrow.Author.Needs.{needs}

@@ -1,7 +1,7 @@
 -- `terms::meant_len` meets its contract. The loop's invariant: what was counted and what is left are what the text stands for.
 use borrow.Author.Needs.{needs}
 use Prim.Native.Nat.{_+_, _-_}
-use mathlib.Core.Path.{_≡_, refl, sym, _∙_}
+use mathlib.Core.Path.{_≡_}
 use native.Mathlib.Omega.{arith}
 use lib.ListN.{length, drop}
 use Rattle.terms.specs.Signs.{signs, stands, meant}

@@ -1,6 +1,6 @@
 -- `terms::open_flaw` meets its contract. The loop's invariant: the mode at the line's end and the last opening quote, from here on, are the line's; and at place 0 the mode is the first.
 use borrow.Author.Needs.{needs}
-use Prim.Native.Nat.{ℕ, _+_, _-_, _≤_}
+use Prim.Native.Nat.{ℕ, _-_, _≤_}
 use mathlib.Core.Path.{_≡_, refl, sym, ap, _∙_}
 use native.Mathlib.Omega.{arith}
 use lib.ListN.{length, drop}

@@ -1,6 +1,5 @@
 -- `terms::out_bare` meets its contract.
-use borrow.Author.Tests.{ne-eqb}
-use mathlib.Core.Path.{_≡_, sym, ap}
+use mathlib.Core.Path.{sym, ap}
 use Rattle.text.specs.Lists.{anyOf}
 use Rattle.terms.specs.declared.Mode.the-variants.{Out}
 use Rattle.terms.specs.Signs.{gives, isBare}

@@ -1,5 +1,4 @@
 -- `terms::put_byte` meets its contract.
-use mathlib.Core.Path.{_≡_, refl, sym, ap, _∙_}
 use Rattle.terms.proofs.ScanLaws.{one-in, pair-out, pair-in}
 use borrow.Author.Needs.{needs}
 use Rattle.terms.proofs.put_byte.Statement.{statement}

@@ -1,5 +1,5 @@
 -- `terms::put_end` meets its contract.
-use mathlib.Core.Path.{_≡_, refl}
+use mathlib.Core.Path.{refl}
 use Rattle.terms.specs.Signs.{stands}
 use borrow.Author.Needs.{needs}
 use Rattle.terms.proofs.put_end.Statement.{statement}

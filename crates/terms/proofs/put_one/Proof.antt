@@ -1,7 +1,7 @@
 -- `terms::put_one` meets its contract.
 use borrow.Author.Tests.{ne-eqb}
 use Prim.Native.Nat.{_+_}
-use mathlib.Core.Path.{_≡_, refl, sym, ap, _∙_}
+use mathlib.Core.Path.{refl, sym, ap}
 use lib.ListN.{length}
 use lib.Seq.{sets}
 use Rattle.terms.specs.declared.Mode.the-variants.{Out}

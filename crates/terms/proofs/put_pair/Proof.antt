@@ -1,9 +1,8 @@
 -- `terms::put_pair` meets its contract.
 use Prim.Native.Nat.{_+_, suc}
 use native.Mathlib.Omega.{arith}
-use native.Mathlib.Numerals.{add-one}
 use lib.ListN.{set}
-use mathlib.Core.Path.{_≡_, refl, sym, ap, _∙_}
+use mathlib.Core.Path.{_≡_, refl, ap, _∙_}
 use borrow.Author.Needs.{needs}
 use Rattle.terms.proofs.put_pair.Statement.{statement}
 use Rattle.terms.proofs.put_pair.Tie as tie

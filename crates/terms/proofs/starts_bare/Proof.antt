@@ -1,5 +1,5 @@
 -- `terms::starts_bare` meets its contract.
-use mathlib.Core.Path.{_≡_, sym, _∙_}
+use mathlib.Core.Path.{sym, _∙_}
 use native.Mathlib.Omega.{arith}
 use Rattle.terms.proofs.ScanLaws.{starts-none, starts-out, starts-lone, starts-escaped, starts-grave}
 use borrow.Author.Needs.{needs}

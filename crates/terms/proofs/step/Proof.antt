@@ -1,4 +1,4 @@
-use mathlib.Core.Path.{_≡_, sym, ap, _∙_}
+-- `terms::step` meets its contract.
 use Rattle.terms.specs.Signs.{after}
 use borrow.Author.Needs.{needs}
 use Rattle.terms.proofs.step.Statement.{statement}

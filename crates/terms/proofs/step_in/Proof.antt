@@ -1,5 +1,6 @@
+-- `terms::step_in` meets its contract.
 use borrow.Author.Tests.{ne-eqb}
-use mathlib.Core.Path.{_≡_, sym, ap, _∙_}
+use mathlib.Core.Path.{sym, ap}
 use Rattle.terms.specs.declared.Mode.the-variants.{In}
 use Rattle.terms.specs.Signs.{after}
 use Rattle.terms.proofs.step_in.Statement.{statement}

@@ -1,5 +1,5 @@
 -- `terms::write_meant` meets its contract: where there is no room nothing is written.
-use mathlib.Core.Path.{_≡_, sym, ap, _∙_}
+use mathlib.Core.Path.{sym, ap, _∙_}
 use native.Mathlib.Omega.{arith}
 use lib.ListN.{length}
 use Rattle.text.proofs.Writes.{fitted-room, fitted-none, filled-none, filled-sets}
