@@ -5,3 +5,7 @@ pub mod ValueLaws
 pub mod PropertyLaws
 pub mod EntryLaws
 pub mod ArgumentLaws
+pub mod Told
+pub mod ItemLaws
+pub mod TargetBytes
+pub mod Only

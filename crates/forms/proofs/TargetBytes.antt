@@ -1,0 +1,134 @@
+-- A target that is of its form has no bytes but letters, digits, `.`, `*` and separators: its signs are all bare. Assumes nothing.
+use Prim.Native.Nat.{ℕ, zero, suc, _+_, _-_, _<_, _≤_}
+use mathlib.Core.Path.{_≡_, refl, sym, ap, _∙_}
+use mathlib.Core.List.{List, [], _∷_, _++_, map}
+use mathlib.Core.Bool.{Bool, true, false, cond, not, _&&_, _||_}
+use mathlib.Core.Option.{Option, none, some}
+use native.Mathlib.Omega.{arith}
+use lib.ListN.{length, take, drop, getD, take-append-drop}
+use lib.Dec.{eqb, leb}
+use borrow.Author.Tests.{eqb-true}
+use Rattle.text.specs.Bytes.{bytes, sameBytes, isLetter, isDigit}
+use Rattle.text.specs.Lists.{allOf, parts, onto, isNil, runLen}
+use Rattle.text.specs.Decimal.{isDecimal}
+use Rattle.text.proofs.Basics.{and-l, and-r, or-in-l, or-in-r, or-case, no-case, same-eq, all-append, all-mono, cond-some, none-some, parts-some}
+use Rattle.text.proofs.Classes.{other-byte}
+use Rattle.text.proofs.Scans.{take-run}
+use Rattle.text.proofs.Decimals.{decimal-made}
+use Rattle.terms.specs.declared.Mode.the-variants.{Out}
+use Rattle.terms.specs.Signs.{Sign, bare, after, gives, signs}
+use Rattle.words.specs.Words.{sessionName}
+use Rattle.forms.specs.Targets.{isSeparator, tagLen, isTagLen, isNumbered, isStarred, isSegment, areSegments, Target, session, path, segmentsOf, pathOf, targetOf}
+
+-- the bytes of a segment, and those of a path
+abbrev pub isSegmentByte : ℕ → Bool
+isSegmentByte b = isLetter b || (isDigit b || (eqb b 46 || eqb b 42))
+
+abbrev pub isPathByte : ℕ → Bool
+isPathByte b = isSegmentByte b || isSeparator b
+
+letter-in : (b : ℕ) → isLetter b ≡ true → isSegmentByte b ≡ true
+letter-in b e = or-in-l (isLetter b) (isDigit b || (eqb b 46 || eqb b 42)) e
+
+digit-in : (b : ℕ) → isDigit b ≡ true → isSegmentByte b ≡ true
+digit-in b e = or-in-r (isLetter b) (isDigit b || (eqb b 46 || eqb b 42)) (or-in-l (isDigit b) (eqb b 46 || eqb b 42) e)
+
+-- a tag and what follows it
+tag-bytes : (s : List ℕ) → allOf isSegmentByte (drop (tagLen s) s) ≡ true → allOf isSegmentByte s ≡ true
+unfolding tagLen
+tag-bytes s e =
+    let k = runLen isLetter s in
+    ap (allOf isSegmentByte) (sym (take-append-drop k s))
+    ∙ all-append isSegmentByte (take k s) (drop k s) (all-mono isLetter isSegmentByte letter-in (take k s) (take-run isLetter s)) e
+
+numbered-bytes : (s : List ℕ) → isNumbered s ≡ true → allOf isSegmentByte s ≡ true
+unfolding isNumbered
+numbered-bytes s e =
+    let d = drop (tagLen s) s in
+    let z = not (eqb (getD s (tagLen s) 0) 48) in
+    let p = and-l (isDecimal 65535 d) z (and-r (isTagLen (tagLen s)) (isDecimal 65535 d && z) e) in
+    tag-bytes s (all-mono isDigit isSegmentByte digit-in d (decimal-made 65535 d p .all))
+
+starred-bytes : (s : List ℕ) → isStarred s ≡ true → allOf isSegmentByte s ≡ true
+unfolding isStarred
+starred-bytes s e =
+    let p = same-eq (drop (tagLen s) s) (bytes "*") (and-r (isTagLen (tagLen s)) (sameBytes (drop (tagLen s) s) (bytes "*")) e) in
+    tag-bytes s (ap (allOf isSegmentByte) p ∙ unfold allOf bytes in refl)
+
+pub segment-bytes : (s : List ℕ) → isSegment s ≡ true → allOf isSegmentByte s ≡ true
+unfolding isSegment
+segment-bytes s e =
+    or-case (sameBytes s (bytes ".")) (sameBytes s (bytes "..") || isNumbered s) e
+    (λ p. ap (allOf isSegmentByte) (same-eq s (bytes ".") p) ∙ unfold allOf bytes in refl)
+    (λ q. or-case (sameBytes s (bytes "..")) (isNumbered s) q
+    (λ p. ap (allOf isSegmentByte) (same-eq s (bytes "..") p) ∙ unfold allOf bytes in refl)
+    (numbered-bytes s))
+
+pub segments-bytes : (ps : List (List ℕ)) → areSegments ps ≡ true → allOf (allOf isSegmentByte) ps ≡ true
+unfolding areSegments allOf
+segments-bytes [] e = refl
+segments-bytes (s ∷ []) e = simp (or-case (isSegment s) (isStarred s) e (segment-bytes s) (starred-bytes s))
+segments-bytes (s ∷ r ∷ rs) e =
+    simp (segment-bytes s (and-l (isSegment s) (areSegments (r ∷ rs)) e)) (segments-bytes (r ∷ rs) (and-r (isSegment s) (areSegments (r ∷ rs)) e))
+
+-- what all the parts are made of, with what parts them
+parts-made : (s : List ℕ) → allOf (allOf isSegmentByte) (parts isSeparator s) ≡ true → allOf isPathByte s ≡ true
+unfolding parts allOf
+parts-made [] e = refl
+parts-made (b ∷ s) e = go (isSeparator b) refl (parts isSeparator s) (parts-some isSeparator s) e (parts-made s)
+  where
+    go : (x : Bool) → isSeparator b ≡ x → (ps : List (List ℕ)) → isNil ps ≡ false → allOf (allOf isSegmentByte) (cond (isSeparator b) ([] ∷ ps) (onto b ps)) ≡ true
+        → (allOf (allOf isSegmentByte) ps ≡ true → allOf isPathByte s ≡ true) → isPathByte b && allOf isPathByte s ≡ true
+    go true p ps h k ih = simp (or-in-r (isSegmentByte b) (isSeparator b) p, ih (rw p at k))
+    go false p [] h k ih = no-case h
+    go false p (q ∷ ps) h k ih =
+        let j : (isSegmentByte b && allOf isSegmentByte q) && allOf (allOf isSegmentByte) ps ≡ true = rw p at k in
+        let l = and-l (isSegmentByte b && allOf isSegmentByte q) (allOf (allOf isSegmentByte) ps) j in
+        let r = and-r (isSegmentByte b && allOf isSegmentByte q) (allOf (allOf isSegmentByte) ps) j in
+        simp (
+          or-in-l (isSegmentByte b) (isSeparator b) (and-l (isSegmentByte b) (allOf isSegmentByte q) l),
+          ih (simp (and-r (isSegmentByte b) (allOf isSegmentByte q) l, r)),
+        )
+
+segments-path : (rooted : Bool) (s : List ℕ) (x : Target) → segmentsOf rooted s ≡ some x → allOf isPathByte s ≡ true
+unfolding segmentsOf
+segments-path rooted s x e =
+    let p = parts isSeparator s in
+    let q = cond-some (areSegments p && leb (length p) 16) (some (path rooted p)) x e in
+    parts-made s (segments-bytes p (and-l (areSegments p) (leb (length p) 16) (q .0)))
+
+path-bytes : (s : List ℕ) (x : Target) → pathOf s ≡ some x → allOf isPathByte s ≡ true
+unfolding pathOf
+path-bytes [] x e = none-some x e
+path-bytes (b ∷ s) x e = go (isSeparator b) refl (isNil s) refl
+  where
+    empty : isNil s ≡ true → s ≡ []
+    empty h = at s h
+      where
+        at : (r : List ℕ) → isNil r ≡ true → r ≡ []
+        at [] k = refl
+        at (d ∷ r) k = no-case (sym k)
+
+    go : (y : Bool) → isSeparator b ≡ y → (z : Bool) → isNil s ≡ z → allOf isPathByte (b ∷ s) ≡ true
+    go true p true q = unfold allOf in simp (or-in-r (isSegmentByte b) (isSeparator b) p, empty q)
+    go true p false q = unfold allOf in simp (or-in-r (isSegmentByte b) (isSeparator b) p, segments-path true s x (rw (p, q) at e))
+    go false p z q = segments-path false (b ∷ s) x (rw p at e)
+
+pub target-bytes : (t : List ℕ) (x : Target) → targetOf t ≡ some x → allOf isPathByte t ≡ true
+unfolding targetOf
+target-bytes t x e = go (sameBytes t sessionName) refl
+  where
+    go : (y : Bool) → sameBytes t sessionName ≡ y → allOf isPathByte t ≡ true
+    go true p = ap (allOf isPathByte) (same-eq t sessionName p) ∙ unfold allOf sessionName bytes in refl
+    go false p = path-bytes t x (rw p at e)
+
+-- the signs of such a text
+pub path-signs : (t : List ℕ) → allOf isPathByte t ≡ true → signs Out t ≡ map bare t
+unfolding signs allOf gives after
+path-signs [] e = refl
+path-signs (b ∷ t) e =
+    let w = and-l (isPathByte b) (allOf isPathByte t) e in
+    simp (other-byte isPathByte 96 b refl w, other-byte isPathByte 34 b refl w, path-signs t (and-r (isPathByte b) (allOf isPathByte t) e))
+
+pub target-signs : (t : List ℕ) (x : Target) → targetOf t ≡ some x → signs Out t ≡ map bare t
+target-signs t x e = path-signs t (target-bytes t x e)
