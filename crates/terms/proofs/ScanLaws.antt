@@ -8,7 +8,8 @@ use native.Mathlib.Nat.{add-sub-cancel-left}
 use lib.ListN.{length, getD, drop, drop-of-length-le, length-append}
 use lib.Seq.{sets}
 use lib.Dec.{eqb}
-use borrow.Author.Tests.{eqb-true, ne-eqb}
+use borrow.Author.Tests.{eqb-true, eq-eqb, ne-eqb, lt-ltb}
+use Rattle.text.specs.declared.Verdict.the-variants.{Flawed}
 use Rattle.text.specs.Bytes.{oneOf}
 use Rattle.text.specs.Lists.{anyOf, walk}
 use Rattle.text.proofs.Scans.{drop-step}
@@ -18,7 +19,8 @@ use Rattle.terms.specs.declared.Mode.the-variants.{Out, OutGrave, In, In
 use Rattle.terms.specs.declared.Found.the-variants as found
 use Rattle.terms.specs.Signs.{Sign, twelve, two, after, gives, atEnd, signs, stands, meant, isBare}
 use Rattle.terms.specs.Marks.{isMark, firstBare, startsBare}
-use Rattle.terms.specs.Rows.{endMode, opens, openedAt, endFlaw, openFlaw}
+use Rattle.terms.specs.Terms.{Term}
+use Rattle.terms.specs.Rows.{longFlaw, endMode, opens, openedAt, endFlaw, openFlaw, manyFrom, lexicalOf}
 use Rattle.terms.specs.Scan.{gapByte, termLen, found, startAt, termAt}
 use Rattle.terms.proofs.TermLaws.{pend, stands-on, stands-past, meant-length}
 
@@ -68,6 +70,20 @@ open-is l i m q h k e f =
     let p : m ≡ endMode Out l = sym (ap (endMode m) d ∙ unfold endMode walk in refl) ∙ e in
     let r : q ≡ openedAt Out 0 0 l = sym (ap (openedAt m i q) d ∙ unfold openedAt in refl) ∙ f in
     ap (λ (x : Mode). endFlaw x i q) p ∙ ap (λ (x : ℕ). endFlaw (endMode Out l) x q) z ∙ ap (λ (x : ℕ). endFlaw (endMode Out l) (length l) x) r
+
+-- ---- rows 1 and 5, where the tests are
+
+pub long-line : (l : List ℕ) → 1024 < length l → lexicalOf l ≡ Flawed 1 1024
+unfolding lexicalOf longFlaw
+long-line l h = rw (lt-ltb 1024 (length l) h)
+
+pub many-ends : (k : ℕ) (t : Term) (ts : List Term) → k ≡ 64 → manyFrom k (t ∷ ts) ≡ Flawed 5 (t .start)
+unfolding manyFrom
+many-ends k t ts e = rw (eq-eqb k 64 e)
+
+pub many-on : (k : ℕ) (t : Term) (ts : List Term) → (k ≡ 64 → ⊥) → manyFrom k (t ∷ ts) ≡ manyFrom (k + 1) ts
+unfolding manyFrom
+many-on k t ts h = rw (ne-eqb k 64 h)
 
 -- ---- tests on signs
 

@@ -1,6 +1,8 @@
 -- `terms::lexical` meets its contract: each test and each callee's result stands in `lexicalOf`.
+use mathlib.Core.Path.{sym}
 use borrow.Author.Tests.{le-ltb, lt-ltb}
 use Rattle.terms.specs.Rows.{longFlaw, oddFlaw, lexicalOf}
+use Rattle.terms.proofs.ScanLaws.{long-line}
 use borrow.Author.Needs.{needs}
 use Rattle.terms.proofs.lexical.Statement.{statement}
 use Rattle.terms.proofs.lexical.Tie as tie
@@ -11,8 +13,7 @@ use Rattle.terms.proofs.open_flaw.Reads as open-flaw-reads
 use Rattle.text.proofs.printable_len.Reads as printable-len-reads
 
 returns : tie.Need-returns
-unfolding lexicalOf longFlaw
-returns c = rw (lt-ltb _ _ (c .if1 .taken))
+returns c = sym (long-line (c .before .before .args .line .now) (c .if1 .taken))
 
 printable-len-requires : tie.Need-printable-len-requires
 printable-len-requires c κs = search needs

@@ -1,7 +1,6 @@
 -- `terms::many_flaw` meets its contract. The loop's invariant: the answer for the terms from here on, with k before them, is the answer.
 use borrow.Author.Needs.{needs}
 use Prim.Native.Nat.{_-_, _≤_}
-use borrow.Author.Tests.{eq-eqb, ne-eqb}
 use mathlib.Core.Path.{_≡_, refl, sym, ap, _∙_}
 use mathlib.Core.Bool.{true}
 use native.Mathlib.Omega.{arith}
@@ -13,6 +12,7 @@ use Rattle.terms.specs.Terms.{termsFrom, termsOf}
 use Rattle.terms.specs.Rows.{manyFrom, manyFlaw}
 use Rattle.terms.specs.Scan.{termAt}
 use Rattle.terms.proofs.TermLaws.{terms-some, terms-none, term-within}
+use Rattle.terms.proofs.ScanLaws.{many-ends, many-on}
 use Rattle.terms.proofs.many_flaw.Statement.{statement}
 use Rattle.terms.proofs.many_flaw.Tie as tie
 use Rattle.terms.proofs.many_flaw.Reads as reads
@@ -50,8 +50,7 @@ unfolding manyFrom
 returns c = sym (ap (manyFrom (c .before .before .before .loop .k)) (terms-none (c .before .before .before .before .before .args .line .now) (c .before .before .before .loop .at) (sym (c .enum-told .given .1) ∙ c .before .before .term-at .ensures))) ∙ c .before .before .before .loop .inv .0
 
 returns-2 : tie.Need-returns-2 Inv-loop μ-loop
-unfolding manyFrom
-returns-2 c = sym (ap (manyFrom (c .before .before .before .before .before .loop .k)) (terms-some (c .before .before .before .before .before .before .before .args .line .now) (c .before .before .before .before .before .loop .at) _ _ (got (c .before .before))) ∙ rw (eq-eqb _ _ (c .if1 .taken))) ∙ c .before .before .before .before .before .loop .inv .0
+returns-2 c = sym (ap (manyFrom (c .before .before .before .before .before .loop .k)) (terms-some (c .before .before .before .before .before .before .before .args .line .now) (c .before .before .before .before .before .loop .at) _ _ (got (c .before .before))) ∙ many-ends (c .before .before .before .before .before .loop .k) _ _ (c .if1 .taken)) ∙ c .before .before .before .before .before .loop .inv .0
 
 add-k : tie.Need-add-k Inv-loop μ-loop
 add-k c = search needs
@@ -63,10 +62,9 @@ loop-less : tie.Need-loop-less Inv-loop μ-loop
 loop-less c = let w = term-within (c .before .before .before .before .before .before .before .args .line .now) (c .before .before .before .before .before .loop .at) _ _ (got (c .before .before)) in let h = w .fits in let p = w .from in let q = w .some in omega arith
 
 loop-again : tie.Need-loop-again Inv-loop μ-loop
-unfolding manyFrom
 loop-again c =
     let w = term-within (c .before .before .before .before .before .before .before .args .line .now) (c .before .before .before .before .before .loop .at) _ _ (got (c .before .before)) in (
-      sym (ap (manyFrom (c .before .before .before .before .before .loop .k)) (terms-some (c .before .before .before .before .before .before .before .args .line .now) (c .before .before .before .before .before .loop .at) _ _ (got (c .before .before))) ∙ rw (ne-eqb _ _ (c .if1 .left))) ∙ c .before .before .before .before .before .loop .inv .0,
+      sym (ap (manyFrom (c .before .before .before .before .before .loop .k)) (terms-some (c .before .before .before .before .before .before .before .args .line .now) (c .before .before .before .before .before .loop .at) _ _ (got (c .before .before))) ∙ many-on (c .before .before .before .before .before .loop .k) _ _ (c .if1 .left)) ∙ c .before .before .before .before .before .loop .inv .0,
       w .fits,
       omega arith,
     )
