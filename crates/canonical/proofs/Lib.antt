@@ -7,3 +7,5 @@ pub mod Targets
 pub mod Places
 pub mod ReadBack
 pub mod Same
+pub mod TextWriting
+pub mod TermWriting

@@ -1,0 +1,256 @@
+-- A term written by its own bytes is the canonical writing of the part that it is; and the bytes of it one step at a time, as the code writes them.
+-- Assumes nothing.
+use Prim.Native.Nat.{ℕ, zero, suc, _+_, _*_, _<_, _≤_}
+use mathlib.Core.Path.{_≡_, refl, sym, ap, _∙_}
+use mathlib.Core.List.{List, [], _∷_, _++_, map, append-assoc, append-nil}
+use mathlib.Core.Bool.{Bool, true, false, cond, not, _&&_, _||_}
+use mathlib.Core.Option.{Option, none, some}
+use native.Mathlib.Omega.{arith}
+use lib.ListN.{length, take, drop, getD, drop-of-length-le, length-append}
+use lib.Dec.{eqb, leb}
+use borrow.Author.Tests.{eqb-true, eq-eqb, ne-eqb, eqb-false}
+use Rattle.text.specs.Bytes.{bytes, oneOf, sameBytes, isWord}
+use Rattle.text.specs.Lists.{allOf, anyOf, onto, parts, each, between, isNil, given}
+use Rattle.text.proofs.Basics.{and-l, and-r, or-l, or-r, or-case, neg, no-case, none-some, same-some, same-eq, Given, given-some, cond-some, parts-some}
+use Rattle.text.proofs.Scans.{drop-step}
+use Rattle.terms.specs.declared.Mode.{Mode}
+use Rattle.terms.specs.declared.Mode.the-variants.{Out, OutGrave, In, InGrave}
+use Rattle.terms.specs.Signs.{Sign, bare, escaped, quote, quoted, quotedEscaped, twelve, two, after, gives, atEnd, signs, raw, raws, standsFor, stands, isBare, meant}
+use Rattle.terms.proofs.TermLaws.{raws-signs}
+use Rattle.words.specs.declared.Kind.{Kind}
+use Rattle.words.specs.declared.Kind.the-variants.{Mere, Keep, Level, Place, Entries}
+use Rattle.words.specs.Words.{verbOf, optionOf, verbName, optionName, kindOf, sessionName}
+use Rattle.forms.specs.Forms.{starts, hasEq, isKeep, isLevel, isMark, isPlace, entriesOf, Property, propertyOf, topicOf}
+use Rattle.forms.specs.Targets.{isSeparator, areSegments, Target, session, path, segmentsOf, pathOf, targetOf}
+use Rattle.reading.specs.declared.Phase.{Phase}
+use Rattle.reading.specs.declared.Phase.the-variants.{First, Options, Waits, Rest}
+use Rattle.reading.specs.declared.State.{State}
+use Rattle.reading.specs.Command.{Argument, number, text, items, argumentBy, Item, verb, option, argument, target, prop}
+use Rattle.reading.specs.Reading.{Decision, refuses, takes, orNo, notSeen, decideVerb, decideOption, decideArgument, decideTarget, decideProperty, decideAfter, decideIn, decide}
+use Rattle.reading.specs.Cursor.{shownOf}
+use Rattle.canonical.specs.Canonical.{bares, inQuotes, closing, writeText, writeValue, writeProperty, writeEntry, escapes, writeMore, writePlace, writeArgument, lead, writeTarget, writeItem}
+use Rattle.canonical.specs.Written.{graves, graved, gravedAll, parting, textSigns, rewriteFrom, rewritten, textIn, textsIn, isParting, textLen, leadsDash, dashGrave, placeIn, slash, slashed, argumentIn, written}
+use Rattle.canonical.proofs.Values.{raws-bares}
+use Rattle.canonical.proofs.ReadBack.{Made, made}
+use Rattle.canonical.proofs.TextWriting.{rewrite-over, entries-written, topic-written, property-written}
+
+-- ---- a target: `/` for each separator
+
+slash-parts : (s : List ℕ) → between 47 (parts isSeparator s) ≡ slashed s
+unfolding parts between each slashed slash
+slash-parts [] = refl
+slash-parts (b ∷ s) = go (eqb b 47) (eqb b 92) refl refl (parts isSeparator s) (parts-some isSeparator s) (slash-parts s)
+  where
+    go : (x y : Bool) → eqb b 47 ≡ x → eqb b 92 ≡ y → (ps : List (List ℕ)) → isNil ps ≡ false → between 47 ps ≡ map slash s
+        → between 47 (cond (eqb b 47 || eqb b 92) ([] ∷ ps) (onto b ps)) ≡ cond (eqb b 92) 47 b ∷ map slash s
+    go x y p q [] n e = no-case n
+    go true true p q (w ∷ ps) n e = absurd (let z = eqb-true b 47 p in let k = eqb-true b 92 q in omega arith)
+    go true false p q (w ∷ ps) n e = simp (p, q) (ap (λ (z : List ℕ). 47 ∷ z) e ∙ ap (λ (z : ℕ). z ∷ map slash s) (sym (eqb-true b 47 p)))
+    go false true p q (w ∷ ps) n e = simp (p, q) (ap (λ (z : List ℕ). 47 ∷ z) e)
+    go false false p q (w ∷ ps) n e = simp (p, q) (ap (λ (z : List ℕ). b ∷ z) e)
+
+segments-written : (rooted : Bool) (s : List ℕ) (g : Target) → segmentsOf rooted s ≡ some g → writeTarget g ≡ lead rooted ++ slashed s
+unfolding segmentsOf
+segments-written rooted s g h =
+    let c = cond-some (areSegments (parts isSeparator s) && leb (length (parts isSeparator s)) 16) (some (path rooted (parts isSeparator s))) g h in
+    let z : g ≡ path rooted (parts isSeparator s) = sym (same-some _ g (c .1)) in
+    rw z (ap (λ (y : List ℕ). lead rooted ++ y) (slash-parts s))
+
+separator-slash : (b : ℕ) → isSeparator b ≡ true → slash b ≡ 47
+unfolding slash
+separator-slash b h = or-case (eqb b 47) (eqb b 92) h (λ e. let z = eqb-true b 47 e in rw z) (λ e. rw e)
+
+path-written : (s : List ℕ) (g : Target) → pathOf s ≡ some g → writeTarget g ≡ slashed s
+unfolding pathOf slashed
+path-written [] g h = none-some g h
+path-written (b ∷ s) g h = go (isSeparator b) refl
+  where
+    inner : (s : List ℕ) → isSeparator b ≡ true → cond (isNil s) (some (path true [])) (segmentsOf true s) ≡ some g → writeTarget g ≡ slash b ∷ map slash s
+    inner [] e k = let z : g ≡ path true [] = sym (same-some _ g k) in rw (z, separator-slash b e) (unfold between in refl)
+    inner (c ∷ s) e k = segments-written true (c ∷ s) g k ∙ ap (λ (y : ℕ). y ∷ map slash (c ∷ s)) (sym (separator-slash b e))
+
+    go : (x : Bool) → isSeparator b ≡ x → writeTarget g ≡ map slash (b ∷ s)
+    go true e = inner s e (rw e at h)
+    go false e = segments-written false (b ∷ s) g (rw e at h)
+
+session-slashed : slashed sessionName ≡ sessionName
+unfolding slashed slash sessionName bytes
+session-slashed = refl
+
+pub target-written : (s : List ℕ) (g : Target) → targetOf s ≡ some g → writeTarget g ≡ slashed s
+unfolding targetOf
+target-written s g h = go (sameBytes s sessionName) refl
+  where
+    go : (x : Bool) → sameBytes s sessionName ≡ x → writeTarget g ≡ slashed s
+    go true e =
+        let z : g ≡ session = sym (same-some _ g (rw e at h)) in
+        rw z (sym (ap slashed (same-eq s sessionName e) ∙ session-slashed))
+    go false e = path-written s g (rw e at h)
+
+-- ---- a source or destination
+
+more-byte : (b : ℕ) → raw (escapes false b) ≡ graved false b
+unfolding escapes graved
+more-byte b = go (oneOf (bytes " `\"") b)
+  where
+    go : (x : Bool) → raw (cond (x || false) (escaped b) (bare b)) ≡ cond x (96 ∷ b ∷ []) (b ∷ [])
+    go true = refl
+    go false = refl
+
+pub more-bytes : (s : List ℕ) → raws (writeMore s) ≡ gravedAll false s
+unfolding raws writeMore gravedAll
+more-bytes [] = refl
+more-bytes (b ∷ s) = ap (λ (z : List ℕ). z ++ raws (writeMore s)) (more-byte b) ∙ ap (λ (z : List ℕ). graved false b ++ z) (more-bytes s)
+
+dash-first : (b : ℕ) → eqb b 45 ≡ true → raw (escapes true b) ≡ 96 ∷ graved false b
+unfolding escapes graved oneOf bytes
+dash-first b e = let z = eqb-true b 45 e in rw z
+
+other-first : (b : ℕ) → eqb b 45 ≡ false → raw (escapes true b) ≡ graved false b
+unfolding escapes
+other-first b e = more-like (oneOf (bytes " `\"") b) ∙ more-byte b
+  where
+    more-like : (x : Bool) → raw (cond (x || (true && eqb b 45)) (escaped b) (bare b)) ≡ raw (cond (x || (false && eqb b 45)) (escaped b) (bare b))
+    more-like x = rw e
+
+place-bytes : (s : List ℕ) → raws (writePlace s) ≡ dashGrave (eqb (getD s 0 0) 45) ++ gravedAll false s
+unfolding raws writePlace gravedAll
+place-bytes [] = refl
+place-bytes (b ∷ s) = go (eqb b 45) refl
+  where
+    go : (x : Bool) → eqb b 45 ≡ x → raw (escapes true b) ++ raws (writeMore s) ≡ dashGrave (eqb b 45) ++ (graved false b ++ gravedAll false s)
+    go true e = rw (e, dash-first b e, more-bytes s)
+    go false e = rw (e, other-first b e, more-bytes s)
+
+dash-escapes : oneOf twelve 45 ≡ true
+unfolding oneOf twelve bytes
+dash-escapes = refl
+
+-- a term without quote marks that does not start with a bare `-` stands for bytes that start with `-` where its own start with an escaped one
+leading : (s : List ℕ) → isPlace (signs Out s) ≡ true → starts 45 (signs Out s) ≡ false → eqb (getD (stands (signs Out s)) 0 0) 45 ≡ leadsDash s
+unfolding leadsDash sameBytes bytes signs gives after stands isPlace anyOf
+leading [] p d = refl
+leading (b ∷ s) p d = go (eqb b 96) (eqb b 34) refl refl s p d
+  where
+    dash : (c : ℕ) (x : Bool) → eqb c 45 ≡ x → eqb c 45 ≡ eqb c 45 && true
+    dash c true e = simp e
+    dash c false e = simp e
+
+    pair : (x : Bool) (c : ℕ) (s : List ℕ) → oneOf twelve c ≡ x → eqb (getD (stands (gives OutGrave c ++ signs Out s)) 0 0) 45 ≡ eqb c 45 && true
+    pair true c s e = simp e (dash c (eqb c 45) refl)
+    pair false c s e =
+        let n : eqb c 45 ≡ false = ne-eqb c 45 (λ z. no-case (sym dash-escapes ∙ ap (oneOf twelve) (sym z) ∙ e)) in
+        simp (e, n)
+
+    go : (x y : Bool) → eqb b 96 ≡ x → eqb b 34 ≡ y → (s : List ℕ)
+        → not (anyOf isMark (gives Out b ++ signs (after Out b) s)) ≡ true
+        → starts 45 (gives Out b ++ signs (after Out b) s) ≡ false
+        → eqb (getD (stands (gives Out b ++ signs (after Out b) s)) 0 0) 45 ≡ sameBytes (take 2 (b ∷ s)) (96 ∷ 45 ∷ [])
+    go true y e f [] p d = simp e
+    go true y e f (c ∷ s) p d = rw e (pair (oneOf twelve c) c s refl)
+    go false true e f s p d = no-case (sym (rw (e, f) at p))
+    go false false e f s p d = simp (e, f, rw (e, f) at d)
+
+pub place-written : (s : List ℕ) → isPlace (signs Out s) ≡ true → starts 45 (signs Out s) ≡ false → raws (writePlace (stands (signs Out s))) ≡ placeIn s
+unfolding placeIn meant
+place-written s p d =
+    place-bytes (stands (signs Out s)) ∙ ap (λ (x : Bool). dashGrave x ++ gravedAll false (stands (signs Out s))) (leading s p d)
+
+-- ---- a term is written as the part that it is
+
+raw-written : (s : List ℕ) → raws (bares (raws (signs Out s))) ≡ s
+raw-written s = raws-bares (raws (signs Out s)) ∙ raws-signs s
+
+argument-written : (k : Kind) (s : List ℕ) (a : Argument) → starts 45 (signs Out s) ≡ false → argumentBy k (signs Out s) ≡ some a → raws (writeArgument a) ≡ argumentIn k s
+argument-written Mere s a d h = none-some a h
+argument-written Keep s a d h =
+    let c = cond-some (isKeep (raws (signs Out s))) (some (number (raws (signs Out s)))) a h in
+    let z : a ≡ number (raws (signs Out s)) = sym (same-some _ a (c .1)) in
+    rw z (raw-written s)
+argument-written Level s a d h =
+    let c = cond-some (isLevel (raws (signs Out s))) (some (number (raws (signs Out s)))) a h in
+    let z : a ≡ number (raws (signs Out s)) = sym (same-some _ a (c .1)) in
+    rw z (raw-written s)
+argument-written Place s a d h =
+    let c = cond-some (isPlace (signs Out s)) (some (text (stands (signs Out s)))) a h in
+    let z : a ≡ text (stands (signs Out s)) = sym (same-some _ a (c .1)) in
+    rw z (place-written s (c .0) d)
+argument-written Entries s a d h =
+    let g = given-some (entriesOf (signs Out s)) (λ es. some (items es)) a h in
+    let z : a ≡ items (g .what) = sym (same-some _ a (g .gives)) in
+    rw z (unfold textsIn in ap raws (sym (entries-written (signs Out s) (g .what) (g .is))))
+
+module _ (s : List ℕ) (i : Item) where
+  property-part : (help : Bool) (count : ℕ) → decideProperty help count (signs Out s) ≡ takes i → raws (writeItem i) ≡ written (shownOf i) s
+  unfolding decideProperty textsIn
+  property-part help count h = go (leb 32 count) refl help h
+    where
+      go : (x : Bool) → leb 32 count ≡ x → (help : Bool) → cond (leb 32 count) (refuses 14) (orNo 13 (cond help (topicOf (signs Out s)) (propertyOf (signs Out s))) prop) ≡ takes i
+          → raws (writeItem i) ≡ written (shownOf i) s
+      go true e help k = let z : _≡_ {A = ℕ} 0 1 = cc (rw e at k) in absurd (omega arith)
+      go false e true k =
+          let m = made 13 (topicOf (signs Out s)) prop i (rw e at k) in
+          rw (m .gives) (ap raws (sym (topic-written (signs Out s) (m .what) (m .is))))
+      go false e false k =
+          let m = made 13 (propertyOf (signs Out s)) prop i (rw e at k) in
+          rw (m .gives) (ap raws (sym (property-written (signs Out s) (m .what) (m .is))))
+
+  target-part : decideTarget (signs Out s) ≡ takes i → raws (writeItem i) ≡ written (shownOf i) s
+  unfolding decideTarget
+  target-part h =
+      let m = made 12 (targetOf (raws (signs Out s))) target i h in
+      let t = ap targetOf (sym (raws-signs s)) ∙ m .is in
+      rw (m .gives) (raws-bares (writeTarget (m .what)) ∙ target-written s (m .what) t)
+
+  after-part : (help : Bool) (count : ℕ) → decideAfter help count (signs Out s) ≡ takes i → raws (writeItem i) ≡ written (shownOf i) s
+  unfolding decideAfter
+  after-part help count h = go (not help && not (hasEq (signs Out s))) refl
+    where
+      go : (x : Bool) → not help && not (hasEq (signs Out s)) ≡ x → raws (writeItem i) ≡ written (shownOf i) s
+      go true e = target-part (rw e at h)
+      go false e = property-part help count (rw e at h)
+
+  option-part : (seen : List Bool) → decideOption seen (signs Out s) ≡ takes i → raws (writeItem i) ≡ written (shownOf i) s
+  unfolding decideOption
+  option-part seen h = go (optionOf (drop 1 (raws (signs Out s)))) h
+    where
+      new : (n : ℕ) (x : Bool) → cond x (refuses 8) (takes (option n)) ≡ takes i → raws (writeItem i) ≡ written (shownOf i) s
+      new n true k = let z : _≡_ {A = ℕ} 0 1 = cc in absurd (omega arith)
+      new n false k = let z : i ≡ option n = cc in rw z (unfold raws in ap (λ (y : List ℕ). 45 ∷ y) (raws-bares (optionName n)))
+
+      go : (o : Option ℕ) → notSeen seen o ≡ takes i → raws (writeItem i) ≡ written (shownOf i) s
+      go none k = let z : _≡_ {A = ℕ} 0 1 = cc in absurd (omega arith)
+      go (some n) k = new n (getD seen n false) k
+
+  argument-part : (n : ℕ) → decideArgument n (signs Out s) ≡ takes i → raws (writeItem i) ≡ written (shownOf i) s
+  unfolding decideArgument
+  argument-part n h = go (starts 45 (signs Out s)) refl
+    where
+      go : (x : Bool) → starts 45 (signs Out s) ≡ x → raws (writeItem i) ≡ written (shownOf i) s
+      go true e = let z : _≡_ {A = ℕ} 0 1 = cc (rw e at h) in absurd (omega arith)
+      go false e =
+          let m = made 10 (argumentBy (kindOf n) (signs Out s)) (argument n) i (rw e at h) in
+          rw (m .gives) (argument-written (kindOf n) s (m .what) e (m .is))
+
+  verb-part : decideVerb (signs Out s) ≡ takes i → raws (writeItem i) ≡ written (shownOf i) s
+  unfolding decideVerb
+  verb-part h = let m = made 6 (verbOf (raws (signs Out s))) verb i h in rw (m .gives) (raws-bares (verbName (m .what)))
+
+  in-part : (p : Phase) (help : Bool) (seen : List Bool) (count : ℕ) → decideIn p help seen count (signs Out s) ≡ takes i → raws (writeItem i) ≡ written (shownOf i) s
+  in-part First help seen count h = verb-part h
+  in-part Options help seen count h = go (starts 45 (signs Out s)) refl
+    where
+      go : (x : Bool) → starts 45 (signs Out s) ≡ x → raws (writeItem i) ≡ written (shownOf i) s
+      go true e = option-part seen (rw e at h)
+      go false e = after-part help count (rw e at h)
+  in-part (Waits n) help seen count h = argument-part n h
+  in-part Rest help seen count h = go (starts 45 (signs Out s)) refl
+    where
+      go : (x : Bool) → starts 45 (signs Out s) ≡ x → raws (writeItem i) ≡ written (shownOf i) s
+      go true e = let z : _≡_ {A = ℕ} 0 1 = cc (rw e at h) in absurd (omega arith)
+      go false e = property-part help count (rw e at h)
+
+  -- whatever part a term is taken as, its bytes are written as that part is
+  pub term-written : (t : State) → decide t (signs Out s) ≡ takes i → raws (writeItem i) ≡ written (shownOf i) s
+  unfolding decide
+  term-written t h = in-part (t .phase) (t .help) (t .seen) (t .count) h
