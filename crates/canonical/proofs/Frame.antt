@@ -106,7 +106,7 @@ words-texts (w ∷ ws) k = words-each w ws (and-l (word w) (allOf word ws) k) (a
 
 -- ---- such a line is read sign by sign, ends outside quotes, and is printable
 
-raws-append : (a b : List Sign) → raws (a ++ b) ≡ raws a ++ raws b
+pub raws-append : (a b : List Sign) → raws (a ++ b) ≡ raws a ++ raws b
 unfolding raws
 raws-append [] b = refl
 raws-append (x ∷ a) b = ap (λ z. raw x ++ z) (raws-append a b) ∙ sym (append-assoc (raw x) (raws a) (raws b))

@@ -9,3 +9,4 @@ pub mod ReadBack
 pub mod Same
 pub mod TextWriting
 pub mod TermWriting
+pub mod WriteLaws

@@ -10,7 +10,7 @@ use Rattle.text.specs.Bytes.{bytes, oneOf, sameBytes, isWord}
 use Rattle.text.specs.Lists.{allOf, each, between, isNil}
 use Rattle.terms.specs.declared.Mode.{Mode}
 use Rattle.terms.specs.declared.Mode.the-variants.{Out, OutGrave, In, InGrave}
-use Rattle.terms.specs.Signs.{Sign, bare, isBare, two, after, signs, raws, stands, meant}
+use Rattle.terms.specs.Signs.{Sign, bare, quote, isBare, two, after, signs, raws, stands, meant}
 use Rattle.words.specs.declared.Kind.{Kind}
 use Rattle.words.specs.declared.Kind.the-variants.{Mere, Keep, Level, Place, Entries}
 use Rattle.words.specs.Words.{verbName, optionName, kindOf}
@@ -18,7 +18,7 @@ use Rattle.reading.specs.declared.Shown.{Shown}
 use Rattle.reading.specs.declared.Shown.the-variants as shown
 use Rattle.reading.specs.Command.{Item}
 use Rattle.reading.specs.Reading.{Part, Reading, refusal, read}
-use Rattle.canonical.specs.Canonical.{writeText, writeItem, itemsOf}
+use Rattle.canonical.specs.Canonical.{closing, writeText, writeItem, itemsOf}
 
 -- ---- bytes with GRAVEs
 
@@ -35,6 +35,10 @@ gravedAll q [] = []
 gravedAll q (b ∷ s) = graved q b ++ gravedAll q s
 
 -- ---- the texts of a property, or of the items of display and output, with what parts them
+
+-- a text in quotes
+abbrev pub quotes : List ℕ → List Sign
+quotes s = quote ∷ closing s
 
 -- written plain
 unfoldable pub isPlain : List ℕ → Bool
