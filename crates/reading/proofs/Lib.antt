@@ -1,1 +1,10 @@
 pub mod Examples
+pub mod Steps
+pub mod Decisions
+pub mod Folds
+pub mod PartOrder
+pub mod Order
+pub mod Room
+pub mod Grave
+pub mod Within
+pub mod Named

@@ -1,4 +1,27 @@
-// A line's reading.
+// A line's reading: its items one step at a time, its records, its target.
+use forms::Shape;
+use forms::Where;
+use terms::Found;
+use text::Answer;
+use text::Verdict;
+use words::Kind;
+use words::Known;
+ghost use mathlib.Core.Path.{_≡_};
+ghost use mathlib.Core.List.{[], _∷_, _++_};
+ghost use mathlib.Core.Bool.{true, false};
+ghost use Prim.Native.Nat.{_+_, _-_, _*_, _/_, _%_, _≤_, _<_};
+ghost use lib.ListN.{length, take, getD, set};
+ghost use lib.Seq.{sets};
+ghost use Rattle.text.specs.Lists.{isNil};
+ghost use Rattle.text.specs.Room.{two, fitted, filled};
+ghost use Rattle.terms.specs.declared.Mode.the-variants.{Out};
+ghost use Rattle.terms.specs.Signs.{signs};
+ghost use Rattle.terms.specs.Terms.{termsOf};
+ghost use Rattle.words.specs.Words.{kindOf};
+ghost use Rattle.reading.specs.Reading.{decideVerb, decideOption, decideArgument, decideTarget, decideProperty, decideAfter, decideIn, phaseAfter, readingOf};
+ghost use Rattle.reading.specs.Records.{optionRecord, answerIn, roomIn, refusalRecord, cutRecord, targetIn, targetPart};
+ghost use Rattle.reading.specs.Cursor.{decidedOf, nextShown, endOn, stepOf, left, start};
+ghost use Rattle.reading.specs.Shown.{verdictIn, neededIn, byShape, argumentIf, recordShown, optionSize, recordSize, nameSize, counted, recordsIn, totalFrom, bytesIn, isTarget};
 
 // What may come next.
 pub enum Phase {
@@ -59,4 +82,666 @@ pub struct Step {
 pub struct Span {
     pub at: usize,
     pub len: usize,
+}
+
+// ---- the decision on one term: by what may come next, and by the term's own bytes
+
+fn decide_verb(t: &[u8]) -> Decided
+    ensures { λ r. ⌜ r ≡ decidedOf (decideVerb (signs Out (now (t .entry)))) ⌝ }
+{
+    let k = words::verb(t);
+    match k {
+        Known::Is(n) => Decided::Takes(Shown::Verb(n)),
+        Known::Unknown => Decided::Refuses(6),
+    }
+}
+
+fn was_seen(seen: [bool; 13], n: u8) -> bool
+    ensures { λ r. ⌜ r ≡ getD seen n false ⌝ }
+{
+    let i = n as usize;
+    if i < 13 {
+        return seen[i];
+    }
+    false
+}
+
+fn decide_option(t: &[u8], seen: [bool; 13]) -> Decided
+    ensures { λ r. ⌜ r ≡ decidedOf (decideOption seen (signs Out (now (t .entry)))) ⌝ }
+{
+    if t.len() == 0 {
+        return Decided::Refuses(7);
+    }
+    let k = words::option(&t[1..]);
+    match k {
+        Known::Is(n) => {
+            if was_seen(seen, n) {
+                return Decided::Refuses(8);
+            }
+            Decided::Takes(Shown::Option(n))
+        }
+        Known::Unknown => Decided::Refuses(7),
+    }
+}
+
+fn argument_if(fits: bool, option: u8) -> Decided
+    ensures { λ r. ⌜ r ≡ argumentIf fits option ⌝ }
+{
+    if fits {
+        return Decided::Takes(Shown::Argument(option));
+    }
+    Decided::Refuses(10)
+}
+
+// The argument is the first n bytes of s.
+fn decide_argument(s: &[u8], n: usize, option: u8) -> Decided
+    requires { ⌜ n ≤ length (now s) ⌝ }
+    ensures { λ r. ⌜ r ≡ decidedOf (decideArgument option (signs Out (take n (now (s .entry))))) ⌝ }
+{
+    let t = &s[..n];
+    if terms::starts_bare(t, b'-') {
+        return Decided::Refuses(9);
+    }
+    let kind = words::kind_of(option);
+    match kind {
+        Kind::Mere => Decided::Refuses(10),
+        Kind::Keep => argument_if(forms::is_keep(t), option),
+        Kind::Level => argument_if(forms::is_level(t), option),
+        Kind::Place => argument_if(forms::is_place(t), option),
+        Kind::Entries => argument_if(forms::are_entries(s, n), option),
+    }
+}
+
+fn decide_target(t: &[u8]) -> Decided
+    ensures { λ r. ⌜ r ≡ decidedOf (decideTarget (signs Out (now (t .entry)))) ⌝ }
+{
+    let w = forms::target_of(t);
+    match w {
+        Where::Session => Decided::Takes(Shown::Target),
+        Where::Path {
+            rooted: _,
+            segments: _,
+        } => Decided::Takes(Shown::Target),
+        Where::No => Decided::Refuses(12),
+    }
+}
+
+fn by_shape(k: Shape) -> Decided
+    ensures { λ r. ⌜ r ≡ byShape k ⌝ }
+{
+    match k {
+        Shape::Is { name, operator } => Decided::Takes(Shown::Property { name, operator }),
+        Shape::No => Decided::Refuses(13),
+    }
+}
+
+fn decide_property(s: &[u8], n: usize, help: bool, count: usize) -> Decided
+    requires { ⌜ n ≤ length (now s) ⌝ }
+    ensures { λ r. ⌜ r ≡ decidedOf (decideProperty help count (signs Out (take n (now (s .entry))))) ⌝ }
+{
+    if 32 <= count {
+        return Decided::Refuses(14);
+    }
+    if help {
+        return by_shape(forms::topic_of(&s[..n]));
+    }
+    by_shape(forms::property_of(s, n))
+}
+
+// The first term after the options: the target, unless the verb is help or it has a bare `=`.
+fn decide_after(s: &[u8], n: usize, help: bool, count: usize) -> Decided
+    requires { ⌜ n ≤ length (now s) ⌝ }
+    ensures { λ r. ⌜ r ≡ decidedOf (decideAfter help count (signs Out (take n (now (s .entry))))) ⌝ }
+{
+    if help {
+        return decide_property(s, n, help, count);
+    }
+    let t = &s[..n];
+    if terms::has_bare(t, b'=') {
+        return decide_property(s, n, help, count);
+    }
+    decide_target(t)
+}
+
+// The term is the first n bytes of s.
+fn decide_in(
+    s: &[u8],
+    n: usize,
+    phase: Phase,
+    help: bool,
+    seen: [bool; 13],
+    count: usize,
+) -> Decided
+    requires { ⌜ n ≤ length (now s) ⌝ }
+    ensures { λ r. ⌜ r ≡ decidedOf (decideIn phase help seen count (signs Out (take n (now (s .entry))))) ⌝ }
+{
+    let t = &s[..n];
+    match phase {
+        Phase::First => decide_verb(t),
+        Phase::Options => {
+            if terms::starts_bare(t, b'-') {
+                return decide_option(t, seen);
+            }
+            decide_after(s, n, help, count)
+        }
+        Phase::Waits(option) => decide_argument(s, n, option),
+        Phase::Rest => {
+            if terms::starts_bare(t, b'-') {
+                return Decided::Refuses(11);
+            }
+            decide_property(s, n, help, count)
+        }
+    }
+}
+
+// ---- one step
+
+fn marked(seen: [bool; 13], n: u8) -> [bool; 13]
+    ensures { λ r. ⌜ r ≡ set seen n true ⌝ }
+{
+    let mut m = seen;
+    let i = n as usize;
+    if i < 13 {
+        m[i] = true;
+        return m;
+    }
+    m
+}
+
+fn phase_after(n: u8) -> Phase
+    ensures { λ r. ⌜ r ≡ phaseAfter n (kindOf n) ⌝ }
+{
+    let k = words::kind_of(n);
+    match k {
+        Kind::Mere => Phase::Options,
+        Kind::Keep => Phase::Waits(n),
+        Kind::Level => Phase::Waits(n),
+        Kind::Place => Phase::Waits(n),
+        Kind::Entries => Phase::Waits(n),
+    }
+}
+
+// The state after a part.
+fn after(s: State, i: Shown) -> State
+    requires { ⌜ (counted i ≡ 1 → s .count < 32) ⌝ }
+    ensures { λ r. ⌜ r ≡ nextShown s i ⌝ }
+{
+    let help = s.help;
+    let seen = s.seen;
+    let count = s.count;
+    match i {
+        Shown::Verb(n) => State {
+            phase: Phase::Options,
+            help: n == 6,
+            seen,
+            count,
+        },
+        Shown::Option(n) => {
+            let phase = phase_after(n);
+            let m = marked(seen, n);
+            State {
+                phase,
+                help,
+                seen: m,
+                count,
+            }
+        }
+        Shown::Argument(_) => State {
+            phase: Phase::Options,
+            help,
+            seen,
+            count,
+        },
+        Shown::Target => State {
+            phase: Phase::Rest,
+            help,
+            seen,
+            count,
+        },
+        Shown::Property {
+            name: _,
+            operator: _,
+        } => State {
+            phase: Phase::Rest,
+            help,
+            seen,
+            count: count + 1,
+        },
+    }
+}
+
+// The line's end: an option that still waits for its argument is refused, at the line's length.
+fn end_step(c: Cursor, phase: Phase, n: usize) -> Step
+    ensures { λ r. ⌜ r ≡ endOn n c phase ⌝ }
+{
+    match phase {
+        Phase::First => Step {
+            given: Given::End,
+            next: c,
+        },
+        Phase::Options => Step {
+            given: Given::End,
+            next: c,
+        },
+        Phase::Waits(_) => Step {
+            given: Given::Refused {
+                number: 9,
+                place: n,
+            },
+            next: c,
+        },
+        Phase::Rest => Step {
+            given: Given::End,
+            next: c,
+        },
+    }
+}
+
+impl Cursor {
+    // Before a line's first term.
+    pub fn begin() -> Cursor
+        ensures { λ r. ⌜ r ≡ start ⌝ }
+    {
+        let state = State {
+            phase: Phase::First,
+            help: false,
+            seen: [false; 13],
+            count: 0,
+        };
+        Cursor { at: 0, state }
+    }
+
+    // The next item of a line, and the cursor after it.
+    pub fn next(self, line: &[u8]) -> Step
+        ensures { λ r. ⌜ r ≡ stepOf (now (line .entry)) self ⌝ }
+    {
+        let at = self.at;
+        let state = self.state;
+        let phase = state.phase;
+        let Found::Term { start, len } = terms::term_at(line, at) else {
+            return end_step(self, phase, line.len());
+        };
+        let help = state.help;
+        let seen = state.seen;
+        let count = state.count;
+        let d = decide_in(&line[start..], len, phase, help, seen, count);
+        match d {
+            Decided::Takes(item) => {
+                let n = Cursor {
+                    at: start + len,
+                    state: after(state, item),
+                };
+                Step {
+                    given: Given::Part { item, start, len },
+                    next: n,
+                }
+            }
+            Decided::Refuses(number) => Step {
+                given: Given::Refused {
+                    number,
+                    place: start,
+                },
+                next: self,
+            },
+        }
+    }
+}
+
+// ---- records
+
+fn high(n: usize) -> u8
+    requires { ⌜ n < 65536 ⌝ }
+    ensures { λ r. ⌜ r ≡ n / 256 ⌝ }
+{
+    (n / 256) as u8
+}
+
+fn low(n: usize) -> u8
+    ensures { λ r. ⌜ r ≡ n % 256 ⌝ }
+{
+    (n % 256) as u8
+}
+
+// An option, or its argument: n bytes from a on.
+fn put_option(out: &mut [u8], at: usize, number: u8, a: usize, n: usize)
+    requires { ⌜ (a < 65536) × (n < 65536) ⌝ }
+    ensures { λ r. ⌜ now (out .exit) ≡ sets (now (out .entry)) at (2 ∷ number ∷ (two a ++ two n)) ⌝ }
+{
+    let t = [2, number, high(a), low(a), high(n), low(n)];
+    text::copy(out, at, &t);
+}
+
+// An option that takes no argument, which would stand at e; another one's record is written at its argument.
+fn put_mere(out: &mut [u8], at: usize, number: u8, e: usize)
+    requires { ⌜ e < 65536 ⌝ }
+    ensures { λ r. ⌜ now (out .exit) ≡ sets (now (out .entry)) at (optionRecord number (kindOf number) e) ⌝ }
+{
+    let k = words::kind_of(number);
+    match k {
+        Kind::Mere => put_option(out, at, number, e, 0),
+        Kind::Keep => {}
+        Kind::Level => {}
+        Kind::Place => {}
+        Kind::Entries => {}
+    }
+}
+
+fn put_target(out: &mut [u8], at: usize, a: usize, n: usize)
+    requires { ⌜ (a < 65536) × (n < 65536) ⌝ }
+    ensures { λ r. ⌜ now (out .exit) ≡ sets (now (out .entry)) at (3 ∷ (two a ++ two n)) ⌝ }
+{
+    let t = [3, high(a), low(a), high(n), low(n)];
+    text::copy(out, at, &t);
+}
+
+// A property: its name, m bytes from a on; its operator; its value, n bytes from v on.
+fn put_parts(out: &mut [u8], at: usize, a: usize, m: usize, operator: u8, v: usize, n: usize)
+    requires { ⌜ (a < 65536) × (m < 65536) × (v < 65536) × (n < 65536) ⌝ }
+    ensures { λ r. ⌜ now (out .exit) ≡ sets (now (out .entry)) at (4 ∷ (two a ++ (two m ++ (operator ∷ (two v ++ two n))))) ⌝ }
+{
+    let t = [
+        4,
+        high(a),
+        low(a),
+        high(m),
+        low(m),
+        operator,
+        high(v),
+        low(v),
+        high(n),
+        low(n),
+    ];
+    text::copy(out, at, &t);
+}
+
+// a without b, and nothing where b is more.
+fn less(a: usize, b: usize) -> usize
+    ensures { λ r. ⌜ r ≡ a - b ⌝ }
+{
+    if a < b {
+        return 0;
+    }
+    a - b
+}
+
+// A property of n bytes from a on, by its name's length and its operator.
+fn put_property(out: &mut [u8], at: usize, m: usize, operator: u8, a: usize, n: usize)
+    requires { ⌜ (a ≤ 1024) × (n ≤ 1024) × (m ≤ 64) ⌝ }
+    ensures { λ r. ⌜ now (out .exit) ≡ sets (now (out .entry)) at (recordShown (Shown.Property m operator) a n) ⌝ }
+{
+    let e = a + m;
+    let k = less(n, m);
+    if operator == 0 {
+        put_parts(out, at, a, m, 0, e + k, 0);
+        return;
+    }
+    if operator == 1 {
+        put_parts(out, at, a, m, 1, e + 1, less(k, 1));
+        return;
+    }
+    put_parts(out, at, a, m, 2, e + 2, less(k, 2));
+}
+
+// The record of a part of n bytes from a on.
+fn put_record(out: &mut [u8], at: usize, item: Shown, a: usize, n: usize)
+    requires { ⌜ (a ≤ 1024) × (n ≤ 1024) × (nameSize item ≤ 64) ⌝ }
+    ensures { λ r. ⌜ now (out .exit) ≡ sets (now (out .entry)) at (recordShown item a n) ⌝ }
+{
+    match item {
+        Shown::Verb(number) => {
+            let t = [1, number];
+            text::copy(out, at, &t);
+        }
+        Shown::Option(number) => put_mere(out, at, number, a + n),
+        Shown::Argument(number) => put_option(out, at, number, a, n),
+        Shown::Target => put_target(out, at, a, n),
+        Shown::Property { name, operator } => put_property(out, at, name, operator, a, n),
+    }
+}
+
+fn option_size(number: u8) -> usize
+    ensures { λ r. ⌜ r ≡ optionSize (kindOf number) ⌝ }
+{
+    let k = words::kind_of(number);
+    match k {
+        Kind::Mere => 6,
+        Kind::Keep => 0,
+        Kind::Level => 0,
+        Kind::Place => 0,
+        Kind::Entries => 0,
+    }
+}
+
+// How many bytes a part's record has.
+fn record_size(item: Shown) -> usize
+    ensures { λ r. ⌜ r ≡ recordSize item ⌝ }
+{
+    match item {
+        Shown::Verb(_) => 2,
+        Shown::Option(number) => option_size(number),
+        Shown::Argument(_) => 6,
+        Shown::Target => 5,
+        Shown::Property {
+            name: _,
+            operator: _,
+        } => 10,
+    }
+}
+
+// ---- a whole line
+
+fn is_blank(line: &[u8]) -> bool
+    ensures { λ r. ⌜ r ≡ isNil (termsOf (now (line .entry))) ⌝ }
+{
+    let f = terms::term_at(line, 0);
+    match f {
+        Found::Term { start: _, len: _ } => false,
+        Found::None => true,
+    }
+}
+
+// The refusal of a line's terms, or how many bytes their records have.
+fn count_records(line: &[u8]) -> Answer
+    requires { ⌜ length (now line) ≤ 1024 ⌝ }
+    ensures { λ r. ⌜ r ≡ totalFrom 0 (left (now (line .entry)) start) ⌝ }
+{
+    let mut c = Cursor::begin();
+    let mut n: usize = 0;
+    loop {
+        let s = c.next(line);
+        let g = s.given;
+        match g {
+            Given::End => return Answer::Wrote(n),
+            Given::Refused { number, place } => return Answer::Refused { number, place },
+            Given::Part {
+                item,
+                start: _,
+                len: _,
+            } => {
+                n += record_size(item);
+                c = s.next;
+            }
+        }
+    }
+}
+
+// A line's refusal, or how many bytes its records have.
+fn needed(line: &[u8]) -> Answer
+    ensures { λ r. ⌜ r ≡ neededIn (readingOf (now (line .entry))) ⌝ }
+{
+    let v = terms::lexical(line);
+    match v {
+        Verdict::Flawed { number, place } => Answer::Refused { number, place },
+        Verdict::Fine => {
+            if is_blank(line) {
+                return Answer::Wrote(1);
+            }
+            count_records(line)
+        }
+    }
+}
+
+// A line's refusal, or that it has none.
+pub fn verdict(line: &[u8]) -> Verdict
+    ensures { λ r. ⌜ r ≡ verdictIn (readingOf (now (line .entry))) ⌝ }
+{
+    let a = needed(line);
+    match a {
+        Answer::Wrote(_) => Verdict::Fine,
+        Answer::Refused { number, place } => Verdict::Flawed { number, place },
+    }
+}
+
+// The records of the terms of a line that is not refused.
+fn put_records(line: &[u8], out: &mut [u8])
+    requires { ⌜ (length (now line) ≤ 1024) × (verdictIn (left (now line) start) ≡ Verdict.Fine) ⌝ }
+    ensures { λ r. ⌜ now (out .exit) ≡ sets (now (out .entry)) 0 (recordsIn (left (now (line .entry)) start)) ⌝ }
+{
+    let mut c = Cursor::begin();
+    let mut w: usize = 0;
+    loop {
+        let s = c.next(line);
+        let g = s.given;
+        match g {
+            Given::End => return,
+            Given::Refused {
+                number: _,
+                place: _,
+            } => return,
+            Given::Part { item, start, len } => {
+                put_record(out, w, item, start, len);
+                w += record_size(item);
+                c = s.next;
+            }
+        }
+    }
+}
+
+// The records of a line that is not refused.
+fn put_reading(line: &[u8], out: &mut [u8])
+    requires { ⌜ verdictIn (readingOf (now line)) ≡ Verdict.Fine ⌝ }
+    ensures { λ r. ⌜ now (out .exit) ≡ sets (now (out .entry)) 0 (bytesIn (readingOf (now (line .entry)))) ⌝ }
+{
+    if is_blank(line) {
+        text::put(out, 0, 6);
+        return;
+    }
+    put_records(line, out);
+}
+
+// A line's records, written at the start of the room; tells how many bytes they have. A refusal writes nothing.
+pub fn read(line: &[u8], out: &mut [u8]) -> Answer
+    ensures { λ r. ⌜ (r ≡ answerIn (length (now (out .entry))) (readingOf (now (line .entry)))) × (now (out .exit) ≡ roomIn (now (out .entry)) (readingOf (now (line .entry)))) ⌝ }
+{
+    let a = needed(line);
+    match a {
+        Answer::Refused { number, place } => Answer::Refused { number, place },
+        Answer::Wrote(n) => {
+            if out.len() < n {
+                return Answer::Refused {
+                    number: 19,
+                    place: 0,
+                };
+            }
+            put_reading(line, out);
+            Answer::Wrote(n)
+        }
+    }
+}
+
+fn is_target(item: Shown) -> bool
+    ensures { λ r. ⌜ r ≡ isTarget item ⌝ }
+{
+    match item {
+        Shown::Verb(_) => false,
+        Shown::Option(_) => false,
+        Shown::Argument(_) => false,
+        Shown::Target => true,
+        Shown::Property {
+            name: _,
+            operator: _,
+        } => false,
+    }
+}
+
+// Where the target of a line that is not refused stands.
+fn first_target(line: &[u8]) -> Span
+    requires { ⌜ verdictIn (left (now line) start) ≡ Verdict.Fine ⌝ }
+    ensures { λ r. ⌜ r ≡ targetIn (left (now (line .entry)) start) ⌝ }
+{
+    let mut c = Cursor::begin();
+    loop {
+        let s = c.next(line);
+        let g = s.given;
+        match g {
+            Given::End => return Span { at: 0, len: 0 },
+            Given::Refused {
+                number: _,
+                place: _,
+            } => return Span { at: 0, len: 0 },
+            Given::Part { item, start, len } => {
+                if is_target(item) {
+                    return Span { at: start, len };
+                }
+                c = s.next;
+            }
+        }
+    }
+}
+
+// Where the target stands: empty, at 0, where there is none or the line is refused.
+pub fn target_span(line: &[u8]) -> Span
+    ensures { λ r. ⌜ r ≡ targetIn (readingOf (now (line .entry))) ⌝ }
+{
+    let v = verdict(line);
+    match v {
+        Verdict::Flawed {
+            number: _,
+            place: _,
+        } => Span { at: 0, len: 0 },
+        Verdict::Fine => first_target(line),
+    }
+}
+
+// The target's own part of the line.
+pub fn target<'a>(line: &'a [u8]) -> &'a [u8]
+    ensures { λ r. ⌜ now r ≡ targetPart (now (line .entry)) ⌝ }
+{
+    let s = target_span(line);
+    let at = s.at;
+    let n = s.len;
+    let end = at + n;
+    &line[at..end]
+}
+
+// ---- records that a lister makes
+
+// A refusal.
+pub fn put_refusal(out: &mut [u8], number: u8, place: u16) -> Answer
+    ensures { λ r. ⌜ (r ≡ fitted (length (now (out .entry))) (refusalRecord number place)) × (now (out .exit) ≡ filled (now (out .entry)) (refusalRecord number place)) ⌝ }
+{
+    if out.len() < 4 {
+        return Answer::Refused {
+            number: 19,
+            place: 0,
+        };
+    }
+    let p = place as usize;
+    let t = [5, number, high(p), low(p)];
+    text::copy(out, 0, &t);
+    Answer::Wrote(4)
+}
+
+// A cut.
+pub fn put_cut(out: &mut [u8]) -> Answer
+    ensures { λ r. ⌜ (r ≡ fitted (length (now (out .entry))) cutRecord) × (now (out .exit) ≡ filled (now (out .entry)) cutRecord) ⌝ }
+{
+    if out.len() < 1 {
+        return Answer::Refused {
+            number: 19,
+            place: 0,
+        };
+    }
+    text::put(out, 0, 7);
+    Answer::Wrote(1)
 }

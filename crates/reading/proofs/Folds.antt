@@ -1,0 +1,198 @@
+-- What a caller makes of a reading, step by step: its size, its records, its target. And a whole line from its first term on. Assumes nothing.
+use Prim.Native.Nat.{ℕ, zero, suc, _+_, _-_, _*_, _<_, _≤_}
+use mathlib.Core.Path.{_≡_, refl, sym, ap, _∙_}
+use mathlib.Core.List.{List, [], _∷_, _++_}
+use mathlib.Core.Bool.{Bool, true, false, cond}
+use native.Mathlib.Omega.{arith}
+use lib.ListN.{length, take, drop, length-append}
+use lib.Seq.{sets}
+use lib.Dec.{leb, ltb}
+use borrow.Author.Tests.{ltb-false}
+use Rattle.text.specs.declared.Answer.{Answer}
+use Rattle.text.specs.declared.Answer.the-variants as answer
+use Rattle.text.specs.declared.Verdict.{Verdict}
+use Rattle.text.specs.declared.Verdict.the-variants.{Fine, Flawed}
+use Rattle.text.specs.Lists.{isNil}
+use Rattle.text.specs.Room.{fitted, filled}
+use Rattle.text.proofs.Basics.{no-case}
+use Rattle.text.proofs.Writes.{sets-append, fitted-room, fitted-none, filled-none, filled-sets}
+use Rattle.terms.specs.Terms.{Term, termsOf}
+use Rattle.terms.specs.Rows.{orElse, longFlaw, oddFlaw, openFlaw, manyFlaw, lexicalOf}
+use Rattle.words.specs.declared.Kind.{Kind}
+use Rattle.words.specs.declared.Kind.the-variants.{Mere, Keep, Level, Place, Entries}
+use Rattle.words.specs.Words.{kindOf}
+use Rattle.reading.specs.declared.State.{State}
+use Rattle.reading.specs.declared.Cursor.{Cursor}
+use Rattle.reading.specs.declared.Shown.{Shown}
+use Rattle.reading.specs.declared.Shown.the-variants as shown
+use Rattle.reading.specs.declared.Span.{Span}
+use Rattle.reading.specs.Command.{Item, verb, option, argument, target, prop}
+use Rattle.reading.specs.Reading.{Decision, refuses, takes, decide, next, begin, Part, Reading, refusal, read, adding, going, partOf, walkTerms, unless, readingOf}
+use Rattle.reading.specs.Records.{recordOf, recordsOf, readRecords, answerIn, roomIn, span, targetSpan, targetIn}
+use Rattle.reading.specs.Cursor.{shownOf, left, start}
+use Rattle.reading.specs.Shown.{verdictIn, neededIn, recordShown, optionSize, recordSize, recordsIn, totalFrom, bytesIn, isTarget}
+use Rattle.reading.proofs.Steps.{record-shown, record-size, Stepped}
+
+-- no record has more than ten bytes
+pub size-most : (x : Shown) → recordSize x ≤ 10
+size-most (shown.Verb k) = omega arith
+size-most (shown.Option k) = go (kindOf k)
+  where
+    go : (d : Kind) → optionSize d ≤ 10
+    go Mere = omega arith
+    go Keep = omega arith
+    go Level = omega arith
+    go Place = omega arith
+    go Entries = omega arith
+size-most (shown.Argument k) = omega arith
+size-most shown.Target = omega arith
+size-most (shown.Property m o) = omega arith
+
+-- ---- one part more
+
+module _ (x : Shown) (a n : ℕ) (i : Item) (shows : shownOf i ≡ x) where
+  record-is : recordOf i a n ≡ recordShown x a n
+  record-is = sym (record-shown i a n) ∙ ap (λ (y : Shown). recordShown y a n) shows
+
+  add-total : (k : ℕ) (r : Reading) → totalFrom k (adding (record { start = a; len = n; item = i }) r) ≡ totalFrom (k + recordSize x) r
+  unfolding recordsOf
+  add-total k (refusal j p) = refl
+  add-total k (read ps) =
+      let l = length-append (recordOf i a n) (recordsOf ps) in
+      let m : length (recordOf i a n) ≡ recordSize x = ap length record-is ∙ record-size x a n in
+      ap answer.Wrote (omega arith)
+
+  add-records : (r : Reading) → verdictIn r ≡ Fine → recordsIn (adding (record { start = a; len = n; item = i }) r) ≡ recordShown x a n ++ recordsIn r
+  unfolding recordsOf
+  add-records (refusal j p) e = let z : _≡_ {A = ℕ} 0 1 = cc in absurd (omega arith)
+  add-records (read ps) e = ap (λ (t : List ℕ). t ++ recordsOf ps) record-is
+
+  add-verdict : (r : Reading) → verdictIn (adding (record { start = a; len = n; item = i }) r) ≡ verdictIn r
+  add-verdict (refusal j p) = refl
+  add-verdict (read ps) = refl
+
+  add-target : (r : Reading) → verdictIn r ≡ Fine → targetIn (adding (record { start = a; len = n; item = i }) r) ≡ cond (isTarget x) (span a n) (targetIn r)
+  unfolding targetSpan
+  add-target (refusal j p) e = let z : _≡_ {A = ℕ} 0 1 = cc in absurd (omega arith)
+  add-target (read ps) e = go i shows
+    where
+      go : (j : Item) → shownOf j ≡ x → targetSpan (record { start = a; len = n; item = j } ∷ ps) ≡ cond (isTarget x) (span a n) (targetSpan ps)
+      go (verb k) h = rw (← h)
+      go (option k) h = rw (← h)
+      go (argument k y) h = rw (← h)
+      go (target y) h = rw (← h)
+      go (prop y) h = rw (← h)
+
+module _ (line : List ℕ) (c : Cursor) (x : Shown) (a n : ℕ) (after : Cursor) (s : Stepped line c x a n after) where
+  pub total-part : (k : ℕ) → totalFrom k (left line c) ≡ totalFrom (k + recordSize x) (left line after)
+  total-part k = ap (totalFrom k) (s .leaves) ∙ add-total x a n (s .item) (s .shows) k (left line after)
+
+  pub verdict-part : verdictIn (left line c) ≡ verdictIn (left line after)
+  verdict-part = ap verdictIn (s .leaves) ∙ add-verdict x a n (s .item) (s .shows) (left line after)
+
+  pub records-part : verdictIn (left line c) ≡ Fine → recordsIn (left line c) ≡ recordShown x a n ++ recordsIn (left line after)
+  records-part e = ap recordsIn (s .leaves) ∙ add-records x a n (s .item) (s .shows) (left line after) (sym verdict-part ∙ e)
+
+  pub target-part : verdictIn (left line c) ≡ Fine → targetIn (left line c) ≡ cond (isTarget x) (span a n) (targetIn (left line after))
+  target-part e = ap targetIn (s .leaves) ∙ add-target x a n (s .item) (s .shows) (left line after) (sym verdict-part ∙ e)
+
+-- one record more is written, and then the rest
+pub put-more : (l m : List ℕ) (w k : ℕ) (rs rest : List ℕ) → m ≡ sets l w rs → k ≡ length rs → sets m (w + k) rest ≡ sets l w (rs ++ rest)
+put-more l m w k rs rest e h = rw (e, h) (sets-append rs rest l w)
+
+-- a refusal is no reading that is fine
+pub refused-fine : {P : Type 0} (r : Reading) (k p : ℕ) → r ≡ refusal k p → verdictIn r ≡ Fine → P
+refused-fine r k p e f = absurd (let z : _≡_ {A = ℕ} 0 1 = cc (ap verdictIn e) in omega arith)
+
+-- ---- a whole line
+
+module _ (line : List ℕ) where
+  pub fine-left : lexicalOf line ≡ Fine → readingOf line ≡ left line start
+  unfolding readingOf left termsOf
+  fine-left e = rw e
+
+  pub flawed-left : (k p : ℕ) → lexicalOf line ≡ Flawed k p → readingOf line ≡ refusal k p
+  unfolding readingOf
+  flawed-left k p e = rw e
+
+  pub fine-lexical : verdictIn (readingOf line) ≡ Fine → lexicalOf line ≡ Fine
+  unfolding readingOf
+  fine-lexical e = go (lexicalOf line) refl
+    where
+      go : (v : Verdict) → lexicalOf line ≡ v → v ≡ Fine
+      go Fine h = refl
+      go (Flawed k p) h = rw h at e
+
+  pub fine-short : lexicalOf line ≡ Fine → length line ≤ 1024
+  unfolding lexicalOf longFlaw
+  fine-short e = go (ltb 1024 (length line)) refl
+    where
+      go : (x : Bool) → ltb 1024 (length line) ≡ x → length line ≤ 1024
+      go true h = let z : _≡_ {A = ℕ} 0 1 = cc (rw h at e) in absurd (omega arith)
+      go false h = ltb-false 1024 (length line) h
+
+  pub blank-left : isNil (termsOf line) ≡ true → left line start ≡ read []
+  unfolding left termsOf walkTerms
+  blank-left e = go (termsOf line) refl
+    where
+      go : (ts : List Term) → termsOf line ≡ ts → walkTerms (length line) begin ts ≡ read []
+      go [] h = refl
+      go (t ∷ ts) h = no-case (sym e ∙ ap isNil h)
+
+-- a line that has a term, if it is not refused, has a part
+some-part : (n : ℕ) (s : State) (ts : List Term) → isNil ts ≡ false → (P : Reading → Type 0) → ((k p : ℕ) → P (refusal k p)) → ((p : Part) (ps : List Part) → P (read (p ∷ ps))) → P (walkTerms n s ts)
+unfolding walkTerms
+some-part n s [] e P f g = no-case e
+some-part n s (t ∷ ts) e P f g = go (decide s (t .text))
+  where
+    put : (p : Part) (r : Reading) → P (adding p r)
+    put p (refusal k a) = f k a
+    put p (read ps) = g p ps
+
+    go : (d : Decision) → P (going d (t .start) (λ i. adding (partOf t i) (walkTerms n (next s i) ts)))
+    go (refuses k) = f k (t .start)
+    go (takes i) = put (partOf t i) (walkTerms n (next s i) ts)
+
+module _ (line : List ℕ) (e : isNil (termsOf line) ≡ false) where
+  pub total-needed : totalFrom 0 (left line start) ≡ neededIn (left line start)
+  unfolding left termsOf
+  total-needed =
+      some-part (length line) begin (termsOf line) e (λ r. totalFrom 0 r ≡ neededIn r) (λ k p. refl)
+      (λ p ps. ap answer.Wrote (omega arith))
+
+  pub bytes-records : recordsIn (left line start) ≡ bytesIn (left line start)
+  unfolding left termsOf
+  bytes-records = some-part (length line) begin (termsOf line) e (λ r. recordsIn r ≡ bytesIn r) (λ k p. refl) (λ p ps. refl)
+
+-- ---- what a line needs, and what is answered
+
+pub needed-refused : (r : Reading) (k p : ℕ) → answer.Refused k p ≡ neededIn r → r ≡ refusal k p
+needed-refused (refusal j q) k p e = cc
+needed-refused (read ps) k p e = let z : _≡_ {A = ℕ} 0 1 = cc in absurd (omega arith)
+
+pub needed-fine : (r : Reading) (n : ℕ) → answer.Wrote n ≡ neededIn r → verdictIn r ≡ Fine
+needed-fine (refusal j q) n e = let z : _≡_ {A = ℕ} 0 1 = cc in absurd (omega arith)
+needed-fine (read ps) n e = refl
+
+module _ (r : Reading) (n : ℕ) (room : List ℕ) (e : answer.Wrote n ≡ neededIn r) where
+  pub read-none : length room < n → (answer.Refused 19 0 ≡ answerIn (length room) r) × (room ≡ roomIn room r)
+  read-none h = go r e
+    where
+      go : (q : Reading) → answer.Wrote n ≡ neededIn q → (answer.Refused 19 0 ≡ answerIn (length room) q) × (room ≡ roomIn room q)
+      go (refusal j p) f = let z : _≡_ {A = ℕ} 0 1 = cc in absurd (omega arith)
+      go (read ps) f =
+          let m : n ≡ length (readRecords ps) = cc in
+          (sym (fitted-none (length room) (readRecords ps) (omega arith)), sym (filled-none room (readRecords ps) (omega arith)))
+
+  pub read-all : n ≤ length room → (now : List ℕ) → now ≡ sets room 0 (bytesIn r) → (answer.Wrote n ≡ answerIn (length room) r) × (now ≡ roomIn room r)
+  read-all h now w = go r e w
+    where
+      go : (q : Reading) → answer.Wrote n ≡ neededIn q → now ≡ sets room 0 (bytesIn q) → (answer.Wrote n ≡ answerIn (length room) q) × (now ≡ roomIn room q)
+      go (refusal j p) f v = let z : _≡_ {A = ℕ} 0 1 = cc in absurd (omega arith)
+      go (read ps) f v =
+          let m : n ≡ length (readRecords ps) = cc in
+          (ap answer.Wrote m ∙ sym (fitted-room (length room) (readRecords ps) (omega arith)), v ∙ filled-sets room (readRecords ps) (omega arith))
+
+pub verdict-refused : (r : Reading) (k p : ℕ) → Flawed k p ≡ verdictIn r → r ≡ refusal k p
+verdict-refused (refusal j q) k p e = cc
+verdict-refused (read ps) k p e = let z : _≡_ {A = ℕ} 0 1 = cc in absurd (omega arith)

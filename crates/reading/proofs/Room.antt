@@ -1,0 +1,181 @@
+-- "A reading takes at most 399 bytes." Assumes nothing.
+use Prim.Native.Nat.{ℕ, zero, suc, _+_, _-_, _*_, _<_, _≤_}
+use mathlib.Core.Path.{_≡_, refl, sym, ap, _∙_}
+use mathlib.Core.List.{List, [], _∷_, _++_}
+use mathlib.Core.Bool.{Bool, true, false, cond, not, _&&_}
+use mathlib.Core.Option.{Option, none, some}
+use native.Mathlib.Omega.{arith}
+use lib.ListN.{length, drop, getD, set, length-set, length-append}
+use lib.Dec.{leb}
+use borrow.Author.Tests.{leb-false}
+use Rattle.text.proofs.Basics.{no-case}
+use Rattle.terms.specs.Signs.{Sign, raws}
+use Rattle.terms.specs.Terms.{Term, termsOf}
+use Rattle.words.specs.declared.Kind.{Kind}
+use Rattle.words.specs.declared.Kind.the-variants.{Mere, Keep, Level, Place, Entries}
+use Rattle.words.specs.Words.{verbOf, optionOf, kindOf}
+use Rattle.words.proofs.WordLaws.{option-only-name}
+use Rattle.forms.specs.Forms.{starts, hasEq, Property, topicOf, propertyOf}
+use Rattle.forms.specs.Targets.{targetOf}
+use Rattle.reading.specs.declared.Phase.{Phase}
+use Rattle.reading.specs.declared.Phase.the-variants.{First, Options, Waits, Rest}
+use Rattle.reading.specs.declared.State.{State}
+use Rattle.reading.specs.Command.{argumentBy, Item, verb, option, argument, target, prop}
+use Rattle.reading.specs.Reading.{state, begin, refuses, takes, orNo, notSeen, decideVerb, decideOption, decideArgument, decideTarget, decideProperty, decideAfter, decideIn, decide, phaseAfter, next, Part, Reading, refusal, read, partOf, walkTerms, readingOf}
+use Rattle.reading.specs.Records.{optionRecord, recordOf, recordsOf, readRecords}
+use Rattle.reading.specs.Cursor.{shownOf}
+use Rattle.reading.specs.Shown.{recordShown, recordSize}
+use Rattle.reading.proofs.Steps.{Made, made, record-shown, record-size}
+use Rattle.reading.proofs.PartOrder.{ended-nil, Taken, walk-taken, read-walk}
+
+-- options that may still be given
+free : List Bool → ℕ
+free [] = 0
+free (true ∷ l) = free l
+free (false ∷ l) = suc (free l)
+
+set-free : (l : List Bool) (n : ℕ) → n < length l → getD l n false ≡ false → suc (free (set l n true)) ≡ free l
+unfolding free
+set-free [] n h e = absurd (omega arith)
+set-free (true ∷ l) zero h e = no-case e
+set-free (false ∷ l) zero h e = refl
+set-free (true ∷ l) (suc n) h e = set-free l n (omega arith) e
+set-free (false ∷ l) (suc n) h e = ap suc (set-free l n (omega arith) e)
+
+-- the first place stands for no option
+set-free-1 : (l : List Bool) (n : ℕ) → 1 ≤ n → n < length l → getD l n false ≡ false → suc (free (drop 1 (set l n true))) ≡ free (drop 1 l)
+set-free-1 [] n k h e = absurd (omega arith)
+set-free-1 (b ∷ l) zero k h e = absurd (omega arith)
+set-free-1 (b ∷ l) (suc n) k h e = set-free l n (omega arith) e
+
+-- the most that the records from a state on can take
+phaseRoom : Phase → ℕ
+phaseRoom First = 7
+phaseRoom Options = 5
+phaseRoom (Waits n) = 11
+phaseRoom Rest = 0
+
+room : Phase → List Bool → ℕ → ℕ
+room p seen count = phaseRoom p + 6 * free (drop 1 seen) + 10 * (32 - count)
+
+roomOf : State → ℕ
+roomOf s = room (s .phase) (s .seen) (s .count)
+
+option-room : (k e : ℕ) (d : Kind) → length (optionRecord k d e) + phaseRoom (phaseAfter k d) ≡ 11
+unfolding phaseRoom
+option-room k e Mere = refl
+option-room k e Keep = refl
+option-room k e Level = refl
+option-room k e Place = refl
+option-room k e Entries = refl
+
+-- one part
+Room : Phase → Bool → List Bool → ℕ → Item → Type 0
+Room p help seen count i = (a n : ℕ) → length (recordOf i a n) + roomOf (next (state p help seen count) i) ≤ room p seen count
+
+prop-size : (q : Property) (a n : ℕ) → length (recordOf (prop q) a n) ≡ 10
+prop-size q a n = ap length (sym (record-shown (prop q) a n)) ∙ record-size (shownOf (prop q)) a n
+
+verb-room : (help : Bool) (seen : List Bool) (count : ℕ) (t : List Sign) (i : Item) → decideVerb t ≡ takes i → Room First help seen count i
+unfolding decideVerb Room roomOf room phaseRoom
+verb-room help seen count t i h a n = let m = made 6 (verbOf (raws t)) verb i h in rw (m .gives) (omega arith)
+
+option-room-in : (help : Bool) (seen : List Bool) (count : ℕ) (t : List Sign) (i : Item) → decideOption seen t ≡ takes i → length seen ≡ 13 → Room Options help seen count i
+unfolding decideOption Room roomOf room
+option-room-in help seen count t i h l a n = go (optionOf (drop 1 (raws t))) refl
+  where
+    new : (k : ℕ) → optionOf (drop 1 (raws t)) ≡ some k → (x : Bool) → getD seen k false ≡ x → length (recordOf i a n) + roomOf (next (state Options help seen count) i) ≤ room Options seen count
+    new k p true q = let z : _≡_ {A = ℕ} 0 1 = cc (rw (p, q) at h) in absurd (omega arith)
+    new k p false q =
+        let z : i ≡ option k = cc (rw (p, q) at h) in
+        let b = option-only-name (drop 1 (raws t)) k p in
+        let y = b .1 in
+        let f = set-free-1 seen k (b .0) (omega arith) q in
+        let o = option-room k (a + n) (kindOf k) in
+        let five : phaseRoom Options ≡ 5 = unfold phaseRoom in refl in
+        rw z (omega arith)
+
+    go : (o : Option ℕ) → optionOf (drop 1 (raws t)) ≡ o → length (recordOf i a n) + roomOf (next (state Options help seen count) i) ≤ room Options seen count
+    go none p = let z : _≡_ {A = ℕ} 0 1 = cc (rw p at h) in absurd (omega arith)
+    go (some k) p = new k p (getD seen k false) refl
+
+argument-room : (k : ℕ) (help : Bool) (seen : List Bool) (count : ℕ) (t : List Sign) (i : Item) → decideArgument k t ≡ takes i → Room (Waits k) help seen count i
+unfolding decideArgument Room roomOf room phaseRoom
+argument-room k help seen count t i h a n = go (starts 45 t) refl
+  where
+    go : (x : Bool) → starts 45 t ≡ x → length (recordOf i a n) + roomOf (next (state (Waits k) help seen count) i) ≤ room (Waits k) seen count
+    go true p = let z : _≡_ {A = ℕ} 0 1 = cc (rw p at h) in absurd (omega arith)
+    go false p = let m = made 10 (argumentBy (kindOf k) t) (argument k) i (rw p at h) in rw (m .gives) (omega arith)
+
+prop-room : (p : Phase) (help : Bool) (seen : List Bool) (count : ℕ) (t : List Sign) (i : Item) → decideProperty help count t ≡ takes i → Room p help seen count i
+unfolding decideProperty Room roomOf room phaseRoom
+prop-room p help seen count t i h a n = go (leb 32 count) refl
+  where
+    go : (x : Bool) → leb 32 count ≡ x → length (recordOf i a n) + roomOf (next (state p help seen count) i) ≤ room p seen count
+    go true q = let z : _≡_ {A = ℕ} 0 1 = cc (rw q at h) in absurd (omega arith)
+    go false q =
+        let m = made 13 (cond help (topicOf t) (propertyOf t)) prop i (rw q at h) in
+        let c = leb-false 32 count q in
+        let v = prop-size (m .what) a n in
+        rw (m .gives) (omega arith)
+
+after-room : (help : Bool) (seen : List Bool) (count : ℕ) (t : List Sign) (i : Item) → decideAfter help count t ≡ takes i → Room Options help seen count i
+unfolding decideAfter decideTarget Room roomOf room phaseRoom
+after-room help seen count t i h a n = go (not help && not (hasEq t)) refl
+  where
+    go : (x : Bool) → (not help && not (hasEq t)) ≡ x → length (recordOf i a n) + roomOf (next (state Options help seen count) i) ≤ room Options seen count
+    go true p = let m = made 12 (targetOf (raws t)) target i (rw p at h) in rw (m .gives) (omega arith)
+    go false p = prop-room Options help seen count t i (rw p at h) a n
+
+one-room : (p : Phase) (help : Bool) (seen : List Bool) (count : ℕ) (t : List Sign) (i : Item) → decideIn p help seen count t ≡ takes i → length seen ≡ 13 → Room p help seen count i
+one-room First help seen count t i h l = verb-room help seen count t i h
+one-room Options help seen count t i h l = go (starts 45 t) refl
+  where
+    go : (x : Bool) → starts 45 t ≡ x → Room Options help seen count i
+    go true p = option-room-in help seen count t i (rw p at h) l
+    go false p = after-room help seen count t i (rw p at h)
+one-room (Waits k) help seen count t i h l = argument-room k help seen count t i h
+one-room Rest help seen count t i h l = go (starts 45 t) refl
+  where
+    go : (x : Bool) → starts 45 t ≡ x → Room Rest help seen count i
+    go true p = let z : _≡_ {A = ℕ} 0 1 = cc (rw p at h) in absurd (omega arith)
+    go false p = prop-room Rest help seen count t i (rw p at h)
+
+next-length : (s : State) (i : Item) → length (next s i .seen) ≡ length (s .seen)
+next-length s (verb n) = refl
+next-length s (option n) = length-set (s .seen) n true
+next-length s (argument n a) = refl
+next-length s (target a) = refl
+next-length s (prop a) = refl
+
+walk-room : (n : ℕ) (s : State) (ts : List Term) (ps : List Part) → walkTerms n s ts ≡ read ps → length (s .seen) ≡ 13 → length (recordsOf ps) ≤ roomOf s
+unfolding recordsOf walkTerms
+walk-room n s [] ps h l = rw (ended-nil (s .phase) n ps h) (omega arith)
+walk-room n s (t ∷ ts) ps h l =
+    let k = walk-taken n s t ts ps h in
+    let r = walk-room n (next s (k .item)) ts (k .rest) (k .walked) (next-length s (k .item) ∙ l) in
+    put (k .item) (k .rest) (k .decided) (k .parts) r
+  where
+    one : (i : Item) → decide s (t .text) ≡ takes i → length (recordOf i (t .start) (length (raws (t .text)))) + roomOf (next s i) ≤ roomOf s
+    one i d = unfold decide Room roomOf in one-room (s .phase) (s .help) (s .seen) (s .count) (t .text) i d l (t .start) (length (raws (t .text)))
+
+    put : (i : Item) (qs : List Part) → decide s (t .text) ≡ takes i → ps ≡ partOf t i ∷ qs → length (recordsOf qs) ≤ roomOf (next s i) → length (recordsOf ps) ≤ roomOf s
+    put i qs d e r =
+        let o = one i d in
+        let m = length-append (recordOf i (t .start) (length (raws (t .text)))) (recordsOf qs) in
+        rw e (omega arith)
+
+begin-room : roomOf begin ≡ 399
+unfolding roomOf room phaseRoom free
+begin-room = refl
+
+pub records-most : (line : List ℕ) (ps : List Part) → readingOf line ≡ read ps → length (recordsOf ps) ≤ 399
+records-most line ps h =
+    let r = walk-room (length line) begin (termsOf line) ps (read-walk line ps h .1) refl in
+    let b = begin-room in
+    omega arith
+
+-- AT MOST 399 BYTES, blank among them
+pub at-most-399 : (line : List ℕ) (ps : List Part) → readingOf line ≡ read ps → length (readRecords ps) ≤ 399
+at-most-399 line [] h = omega arith
+at-most-399 line (p ∷ ps) h = records-most line (p ∷ ps) h

@@ -1,0 +1,320 @@
+-- A reading taken one step at a time: what each step of a cursor says of what is left of a line. Every loop over `Cursor::next` cites these.
+-- Assumes nothing.
+use Prim.Native.Nat.{ℕ, zero, suc, _+_, _-_, _<_, _≤_}
+use mathlib.Core.Path.{_≡_, refl, sym, ap, _∙_}
+use mathlib.Core.List.{List, [], _∷_, _++_}
+use mathlib.Core.Bool.{Bool, true, false, cond, not, _&&_}
+use mathlib.Core.Option.{Option, none, some}
+use native.Mathlib.Omega.{arith}
+use lib.ListN.{length, take, drop, getD, length-append}
+use lib.Dec.{eqb, leb}
+use borrow.Author.Tests.{leb-true, leb-false}
+use Rattle.text.specs.Lists.{given, allOf, upTo, past}
+use Rattle.text.specs.Room.{two}
+use Rattle.text.specs.Bytes.{isLetter, isWord}
+use Rattle.text.proofs.Slices.{part-from}
+use Rattle.text.proofs.Basics.{and-l, and-r, Given, given-some, cond-some, same-some}
+use Rattle.terms.specs.declared.Mode.the-variants.{Out}
+use Rattle.terms.specs.declared.Found.{Found}
+use Rattle.terms.specs.declared.Found.the-variants as found
+use Rattle.terms.specs.Signs.{Sign, signs, raws, isBare}
+use Rattle.terms.specs.Terms.{Term, termsFrom, termsOf}
+use Rattle.terms.specs.Scan.{termAt}
+use Rattle.terms.proofs.TermLaws.{terms-some, terms-none, term-within, term-size}
+use Rattle.words.specs.declared.Kind.{Kind}
+use Rattle.words.specs.declared.Kind.the-variants.{Mere, Keep, Level, Place, Entries}
+use Rattle.words.specs.Words.{verbOf, optionOf, kindOf}
+use Rattle.forms.specs.Forms.{starts, hasEq, isName, Said, alone, equals, matches, Property, saidOf, propertyOf, topicOf}
+use Rattle.forms.specs.Targets.{targetOf}
+use Rattle.forms.specs.Answers.{operatorOf}
+use Rattle.reading.specs.declared.Phase.{Phase}
+use Rattle.reading.specs.declared.Phase.the-variants.{First, Options, Waits, Rest}
+use Rattle.reading.specs.declared.State.{State}
+use Rattle.reading.specs.declared.Shown.{Shown}
+use Rattle.reading.specs.declared.Shown.the-variants as shown
+use Rattle.reading.specs.declared.Decided.{Decided}
+use Rattle.reading.specs.declared.Decided.the-variants.{Takes, Refuses}
+use Rattle.reading.specs.declared.Cursor.{Cursor}
+use Rattle.reading.specs.declared.Given.the-variants as gives
+use Rattle.reading.specs.declared.Step.{Step}
+use Rattle.reading.specs.Command.{Item, verb, option, argument, target, prop, argumentBy}
+use Rattle.reading.specs.Reading.{state, begin, Decision, refuses, takes, orNo, notSeen, decideVerb, decideOption, decideArgument, decideTarget, decideProperty, decideAfter, decideIn, decide, next, Part, Reading, refusal, read, adding, ended, partOf, going, walkTerms, unless, readingOf}
+use Rattle.reading.specs.Records.{optionRecord, valueRecord, recordOf, recordsOf}
+use Rattle.reading.specs.Cursor.{shownOf, decidedOf, nextShown, cursor, step, stepOn, endOn, stepAt, stepOf, left, start}
+use Rattle.reading.specs.Shown.{valueShown, recordShown, optionSize, recordSize, nameSize, counted}
+
+-- ---- what a decision was made from
+
+pub record Made {A : Type 0} (o : Option A) (f : A → Item) (i : Item) : Type 0 where
+  pub what : A
+  pub is : o ≡ some what
+  pub gives : i ≡ f what
+
+pub made : {A : Type 0} (n : ℕ) (o : Option A) (f : A → Item) (i : Item) → orNo n o f ≡ takes i → Made o f i
+made n none f i e = let z : _≡_ {A = ℕ} 0 1 = cc in absurd (omega arith)
+made n (some a) f i e = record { what = a; is = refl; gives = cc }
+
+-- ---- a part by what is shown of it
+
+-- the next state reads of a part only what is shown
+pub next-shown : (s : State) (i : Item) → nextShown s (shownOf i) ≡ next s i
+next-shown s (verb n) = refl
+next-shown s (option n) = refl
+next-shown s (argument n a) = refl
+next-shown s (target t) = refl
+next-shown s (prop p) = refl
+
+value-shown : (s : Said) (a n : ℕ) → valueShown (operatorOf s) a n ≡ valueRecord s a n
+value-shown alone a n = refl
+value-shown (equals v) a n = refl
+value-shown (matches v) a n = refl
+
+-- and so does its record
+pub record-shown : (i : Item) (a n : ℕ) → recordShown (shownOf i) a n ≡ recordOf i a n
+record-shown (verb k) a n = refl
+record-shown (option k) a n = refl
+record-shown (argument k x) a n = refl
+record-shown (target x) a n = refl
+record-shown (prop p) a n = rw (value-shown (p .said) (a + length (p .name)) (n - length (p .name)))
+
+option-size : (k e : ℕ) → length (optionRecord k (kindOf k) e) ≡ optionSize (kindOf k)
+option-size k e = go (kindOf k)
+  where
+    go : (d : Kind) → length (optionRecord k d e) ≡ optionSize d
+    go Mere = refl
+    go Keep = refl
+    go Level = refl
+    go Place = refl
+    go Entries = refl
+
+value-size : (o a n : ℕ) → length (valueShown o a n) ≡ 5
+value-size o a n = go (eqb o 0) (eqb o 1)
+  where
+    go : (x y : Bool) → length (cond x (0 ∷ (two (a + n) ++ two 0)) (cond y (1 ∷ (two (a + 1) ++ two (n - 1))) (2 ∷ (two (a + 2) ++ two (n - 2))))) ≡ 5
+    go true y = refl
+    go false true = refl
+    go false false = refl
+
+pub record-size : (x : Shown) (a n : ℕ) → length (recordShown x a n) ≡ recordSize x
+record-size (shown.Verb k) a n = refl
+record-size (shown.Option k) a n = option-size k (a + n)
+record-size (shown.Argument k) a n = refl
+record-size shown.Target a n = refl
+record-size (shown.Property m o) a n = ap (λ (k : ℕ). suc (suc (suc (suc (suc k))))) (value-size o (a + m) (n - m))
+
+-- ---- a property that was taken: its name is a name, and there was room for one more
+
+name-most : (s : List ℕ) → isName s ≡ true → length s ≤ 64
+unfolding isName
+name-most [] e = omega arith
+name-most (b ∷ s) e =
+    let h = leb-true (length s) 63 (and-r (allOf isWord s) (leb (length s) 63) (and-r (isLetter b) (allOf isWord s && leb (length s) 63) e)) in
+    omega arith
+
+pub topic-name : (t : List Sign) (p : Property) → topicOf t ≡ some p → isName (p .name) ≡ true
+unfolding topicOf
+topic-name t p h =
+    let c = cond-some (isName (raws t)) _ p h in
+    sym (ap (λ (q : Property). isName (q .name)) (same-some _ p (c .1))) ∙ c .0
+
+pub property-name : (t : List Sign) (p : Property) → propertyOf t ≡ some p → isName (p .name) ≡ true
+unfolding propertyOf
+property-name t p h = go (hasEq t) refl
+  where
+    go : (x : Bool) → hasEq t ≡ x → isName (p .name) ≡ true
+    go true e =
+        let c = cond-some (isName (raws (upTo (isBare 61) t))) _ p (rw e at h) in
+        let g = given-some (saidOf (past (isBare 61) t)) _ p (c .1) in
+        sym (ap (λ (q : Property). isName (q .name)) (same-some _ p (g .gives))) ∙ c .0
+    go false e =
+        let c = cond-some (isName (raws t)) _ p (rw e at h) in
+        sym (ap (λ (q : Property). isName (q .name)) (same-some _ p (c .1))) ∙ c .0
+
+-- what a taken part says of the state and of itself
+pub record Took (count : ℕ) (i : Item) : Type 0 where
+  pub name : nameSize (shownOf i) ≤ 64
+  pub room : counted (shownOf i) ≡ 1 → count < 32
+
+took-other : (count : ℕ) (i : Item) → nameSize (shownOf i) ≡ 0 → counted (shownOf i) ≡ 0 → Took count i
+took-other count i a b = record { name = omega arith; room = λ e. absurd (omega arith) }
+
+took-prop : (help : Bool) (count : ℕ) (t : List Sign) (i : Item) → decideProperty help count t ≡ takes i → Took count i
+unfolding decideProperty
+took-prop help count t i h = go (leb 32 count) refl
+  where
+    named : (x : Bool) (p : Property) → cond x (topicOf t) (propertyOf t) ≡ some p → isName (p .name) ≡ true
+    named true p e = topic-name t p e
+    named false p e = property-name t p e
+
+    go : (x : Bool) → leb 32 count ≡ x → Took count i
+    go true e = let z : _≡_ {A = ℕ} 0 1 = cc (rw e at h) in absurd (omega arith)
+    go false e =
+        let m = made 13 (cond help (topicOf t) (propertyOf t)) prop i (rw e at h) in
+        let c = leb-false 32 count e in
+        let n = name-most (m .what .name) (named help (m .what) (m .is)) in
+        rw (m .gives) (record { name = n; room = λ _. c })
+
+took-in : (p : Phase) (help : Bool) (seen : List Bool) (count : ℕ) (t : List Sign) (i : Item) → decideIn p help seen count t ≡ takes i → Took count i
+unfolding decideVerb decideOption decideAfter decideTarget decideArgument
+took-in First help seen count t i h = let m = made 6 (verbOf (raws t)) verb i h in rw (m .gives) (took-other count (verb (m .what)) refl refl)
+took-in Options help seen count t i h = go (starts 45 t) refl
+  where
+    new : (k : ℕ) (x : Bool) → cond x (refuses 8) (takes (option k)) ≡ takes i → Took count i
+    new k true e = let z : _≡_ {A = ℕ} 0 1 = cc in absurd (omega arith)
+    new k false e = let z : i ≡ option k = cc in rw z (took-other count (option k) refl refl)
+
+    opt : (o : Option ℕ) → notSeen seen o ≡ takes i → Took count i
+    opt none e = let z : _≡_ {A = ℕ} 0 1 = cc in absurd (omega arith)
+    opt (some k) e = new k (getD seen k false) e
+
+    aft : (x : Bool) → cond x (orNo 12 (targetOf (raws t)) target) (decideProperty help count t) ≡ takes i → Took count i
+    aft true e = let m = made 12 (targetOf (raws t)) target i e in rw (m .gives) (took-other count (target (m .what)) refl refl)
+    aft false e = took-prop help count t i e
+
+    go : (x : Bool) → starts 45 t ≡ x → Took count i
+    go true e = opt (optionOf (drop 1 (raws t))) (rw e at h)
+    go false e = aft (not help && not (hasEq t)) (rw e at h)
+took-in (Waits k) help seen count t i h = go (starts 45 t) refl
+  where
+    go : (x : Bool) → starts 45 t ≡ x → Took count i
+    go true e = let z : _≡_ {A = ℕ} 0 1 = cc (rw e at h) in absurd (omega arith)
+    go false e = let m = made 10 (argumentBy (kindOf k) t) (argument k) i (rw e at h) in rw (m .gives) (took-other count (argument k (m .what)) refl refl)
+took-in Rest help seen count t i h = go (starts 45 t) refl
+  where
+    go : (x : Bool) → starts 45 t ≡ x → Took count i
+    go true e = let z : _≡_ {A = ℕ} 0 1 = cc (rw e at h) in absurd (omega arith)
+    go false e = took-prop help count t i (rw e at h)
+
+pub took : (s : State) (t : List Sign) (i : Item) → decide s t ≡ takes i → Took (s .count) i
+unfolding decide
+took s t i h = took-in (s .phase) (s .help) (s .seen) (s .count) t i h
+
+-- ---- what is left of a line
+
+pub left-none : (line : List ℕ) (c : Cursor) → found.None ≡ termAt line (c .at) → left line c ≡ ended (c .state .phase) (length line)
+unfolding left walkTerms
+left-none line c e = rw (terms-none line (c .at) e)
+
+pub left-some : (line : List ℕ) (c : Cursor) (a n : ℕ) → found.Term a n ≡ termAt line (c .at)
+    → left line c
+    ≡ going (decide (c .state) (signs Out (take n (drop a line)))) a
+    (λ i. adding (record { start = a; len = n; item = i }) (left line (cursor (a + n) (next (c .state) i))))
+unfolding left walkTerms
+left-some line c a n e = rw (terms-some line (c .at) a n e, term-size line a n (term-within line (c .at) a n e .fits))
+
+pub left-refused : (line : List ℕ) (c : Cursor) (a n k : ℕ) → found.Term a n ≡ termAt line (c .at)
+    → decide (c .state) (signs Out (take n (drop a line))) ≡ refuses k → left line c ≡ refusal k a
+left-refused line c a n k e d = left-some line c a n e ∙ rw d
+
+pub left-takes : (line : List ℕ) (c : Cursor) (a n : ℕ) (i : Item) → found.Term a n ≡ termAt line (c .at)
+    → decide (c .state) (signs Out (take n (drop a line))) ≡ takes i
+    → left line c ≡ adding (record { start = a; len = n; item = i }) (left line (cursor (a + n) (next (c .state) i)))
+left-takes line c a n i e d = left-some line c a n e ∙ rw d
+
+-- ---- one step
+
+-- a step that gave a part: which part it is, what it leaves, and where the cursor then stands
+pub record Stepped (line : List ℕ) (c : Cursor) (x : Shown) (a n : ℕ) (after : Cursor) : Type 0 where
+  pub item : Item
+  pub shows : shownOf item ≡ x
+  pub leaves : left line c ≡ adding (record { start = a; len = n; item = item }) (left line after)
+  pub from : c .at ≤ a
+  pub some : 0 < n
+  pub at : after .at ≡ a + n
+  pub fits : a + n ≤ length line
+  pub name : nameSize x ≤ 64
+
+-- what a step gave, by the term that was found and the decision on it
+data How (line : List ℕ) (c : Cursor) (s : Step) : Type 0 where
+  part : (i : Item) (a n : ℕ) → found.Term a n ≡ termAt line (c .at) → decide (c .state) (signs Out (take n (drop a line))) ≡ takes i
+      → s ≡ step (gives.Part (shownOf i) a n) (cursor (a + n) (next (c .state) i)) → How line c s
+  no : (k a : ℕ) → left line c ≡ refusal k a → s ≡ step (gives.Refused k a) c → How line c s
+  over : left line c ≡ read [] → s ≡ step gives.End c → How line c s
+
+how : (line : List ℕ) (c : Cursor) (s : Step) → s ≡ stepOf line c → How line c s
+unfolding stepOf
+how line c s is = go (termAt line (c .at)) refl
+  where
+    over-in : (p : Phase) → c .state .phase ≡ p → left line c ≡ ended p (length line) → s ≡ endOn (length line) c p → How line c s
+    over-in First e l h = over l h
+    over-in Options e l h = over l h
+    over-in (Waits k) e l h = no 9 (length line) l h
+    over-in Rest e l h = over l h
+
+    by : (a n : ℕ) (d : Decision) → found.Term a n ≡ termAt line (c .at) → decide (c .state) (signs Out (take n (drop a line))) ≡ d
+        → s ≡ stepOn a n c (decidedOf d) → How line c s
+    by a n (refuses k) e q h = no k a (left-refused line c a n k e q) h
+    by a n (takes i) e q h =
+        part i a n e q (h ∙ ap (λ (t : State). step (gives.Part (shownOf i) a n) (cursor (a + n) t)) (next-shown (c .state) i))
+
+    go : (f : Found) → termAt line (c .at) ≡ f → How line c s
+    go found.None e = over-in (c .state .phase) refl (left-none line c (sym e)) (is ∙ ap (stepAt line c) e)
+    go (found.Term a n) e = by a n (decide (c .state) (signs Out (take n (drop a line)))) (sym e) refl (is ∙ ap (stepAt line c) e)
+
+module _ (line : List ℕ) (c : Cursor) (s : Step) (is : s ≡ stepOf line c) where
+  pub step-part : (x : Shown) (a n : ℕ) → s .given ≡ gives.Part x a n → Stepped line c x a n (s .next)
+  step-part x a n g = go (how line c s is)
+    where
+      go : How line c s → Stepped line c x a n (s .next)
+      go (part i b m e d h) =
+          let q = sym (ap (λ (t : Step). t .given) h) ∙ g in
+          let x-is : shownOf i ≡ x = cc in
+          let a-is : b ≡ a = cc in
+          let n-is : m ≡ n = cc in
+          let w = term-within line (c .at) b m e in
+          let k = took (c .state) (signs Out (take m (drop b line))) i d in
+          let at-is : s .next .at ≡ b + m = ap (λ (t : Step). t .next .at) h in
+          record {
+            item = i;
+            shows = x-is;
+            leaves = left-takes line c b m i e d
+                ∙ ap (λ (t : Cursor). adding (record { start = b; len = m; item = i }) (left line t)) (sym (ap (λ (t : Step). t .next) h))
+                ∙ ap (λ (k : ℕ). adding (record { start = k; len = m; item = i }) (left line (s .next))) a-is
+                ∙ ap (λ (k : ℕ). adding (record { start = a; len = k; item = i }) (left line (s .next))) n-is;
+            from = omega (arith, w .from);
+            some = omega (arith, w .some);
+            at = omega arith;
+            fits = omega (arith, w .fits);
+            name = rw x-is at (k .name);
+          }
+      go (no k b l h) = let q = sym (ap (λ (t : Step). t .given) h) ∙ g in let z : _≡_ {A = ℕ} 0 1 = cc in absurd (omega arith)
+      go (over l h) = let q = sym (ap (λ (t : Step). t .given) h) ∙ g in let z : _≡_ {A = ℕ} 0 1 = cc in absurd (omega arith)
+
+  pub step-refused : (k a : ℕ) → s .given ≡ gives.Refused k a → left line c ≡ refusal k a
+  step-refused k a g = go (how line c s is)
+    where
+      go : How line c s → left line c ≡ refusal k a
+      go (part i b m e d h) = let q = sym (ap (λ (t : Step). t .given) h) ∙ g in let z : _≡_ {A = ℕ} 0 1 = cc in absurd (omega arith)
+      go (no j b l h) = let q = sym (ap (λ (t : Step). t .given) h) ∙ g in let z : refusal j b ≡ refusal k a = cc in l ∙ z
+      go (over l h) = let q = sym (ap (λ (t : Step). t .given) h) ∙ g in let z : _≡_ {A = ℕ} 0 1 = cc in absurd (omega arith)
+
+  pub step-end : s .given ≡ gives.End → left line c ≡ read []
+  step-end g = go (how line c s is)
+    where
+      go : How line c s → left line c ≡ read []
+      go (part i b m e d h) = let q = sym (ap (λ (t : Step). t .given) h) ∙ g in let z : _≡_ {A = ℕ} 0 1 = cc in absurd (omega arith)
+      go (no j b l h) = let q = sym (ap (λ (t : Step). t .given) h) ∙ g in let z : _≡_ {A = ℕ} 0 1 = cc in absurd (omega arith)
+      go (over l h) = l
+
+-- ---- a step, as the code makes it
+
+-- without a term
+pub step-none : (line : List ℕ) (c : Cursor) (p : Phase) → p ≡ c .state .phase → found.None ≡ termAt line (c .at) → endOn (length line) c p ≡ stepOf line c
+unfolding stepOf
+step-none line c p h e = ap (endOn (length line) c) h ∙ ap (stepAt line c) e
+
+-- with one, by the decision on it; the term begins the part of the line that begins at a
+pub step-is : (line : List ℕ) (c : Cursor) (a n : ℕ) (d : Decided) → found.Term a n ≡ termAt line (c .at)
+    → d ≡ decidedOf (decideIn (c .state .phase) (c .state .help) (c .state .seen) (c .state .count) (signs Out (take n (take (length line - a) (drop a line)))))
+    → stepOn a n c d ≡ stepOf line c
+unfolding stepOf decide
+step-is line c a n d e h =
+    ap (stepOn a n c) (h ∙ ap (λ (s : List ℕ). decidedOf (decide (c .state) (signs Out (take n s)))) (part-from line a)) ∙ ap (stepAt line c) e
+
+-- a part that was taken, by what is shown of it
+pub shown-room : (s : State) (t : List Sign) (x : Shown) → Takes x ≡ decidedOf (decide s t) → counted x ≡ 1 → s .count < 32
+shown-room s t x h = go (decide s t) refl h
+  where
+    go : (d : Decision) → decide s t ≡ d → Takes x ≡ decidedOf d → counted x ≡ 1 → s .count < 32
+    go (refuses k) e q = let z : _≡_ {A = ℕ} 0 1 = cc in absurd (omega arith)
+    go (takes i) e q = let z : shownOf i ≡ x = cc in λ w. took s t i e .room (ap counted z ∙ w)

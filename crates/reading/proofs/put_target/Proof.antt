@@ -1,0 +1,55 @@
+use borrow.Author.Needs.{needs}
+use Rattle.reading.proofs.put_target.Statement.{statement}
+use Rattle.reading.proofs.put_target.Tie as tie
+use Rattle.reading.proofs.put_target.Reads as reads
+use Rattle.reading.proofs.put_target.Lts as lts
+use Rattle.reading.proofs.high.Reads as high-reads
+use Rattle.reading.proofs.low.Reads as low-reads
+use Rattle.text.proofs.copy.Reads as copy-reads
+
+-- src/lib.rt:426:17
+high-requires : tie.Need-high-requires
+high-requires c κs = search needs
+
+-- src/lib.rt:426:26
+low-requires : tie.Need-low-requires
+low-requires c κs = search needs
+
+-- src/lib.rt:426:34
+high-requires-2 : tie.Need-high-requires-2
+high-requires-2 c κs = search needs
+
+-- src/lib.rt:426:43
+low-requires-2 : tie.Need-low-requires-2
+low-requires-2 c κs = search needs
+
+-- src/lib.rt:427:25
+slice-aggregate-copy : tie.Need-slice-aggregate-copy
+slice-aggregate-copy c = search needs
+
+-- src/lib.rt:427:5
+copy-requires : tie.Need-copy-requires
+copy-requires c κs = search needs
+
+-- src/lib.rt:422:1
+same-length : tie.Need-same-length
+same-length c = search needs
+
+-- src/lib.rt:422:1
+returns : tie.Need-returns
+returns c =
+    let l = c .before .before .before .before .before in
+    rw (l .low2 .ensures, l .before .high2 .ensures, l .before .before .low .ensures, l .before .before .before .high .ensures) at (c .before .before .copy .ensures)
+
+pub put-target-spec : {M : Type 1} → statement M
+put-target-spec =
+    tie.close
+    (tie.spec
+    high-requires
+    low-requires
+    high-requires-2
+    low-requires-2
+    slice-aggregate-copy
+    copy-requires
+    same-length
+    returns)

@@ -1,0 +1,49 @@
+use mathlib.Core.Path.{_≡_, refl, sym, ap, _∙_}
+use Rattle.reading.specs.Reading.{Reading, readingOf}
+use Rattle.reading.specs.Records.{targetIn}
+use Rattle.reading.specs.Shown.{verdictIn}
+use Rattle.reading.proofs.Folds.{fine-left, fine-lexical, verdict-refused}
+use borrow.Author.Needs.{needs}
+use Rattle.reading.proofs.target_span.Statement.{statement}
+use Rattle.reading.proofs.target_span.Tie as tie
+use Rattle.reading.proofs.target_span.Reads as reads
+use Rattle.reading.proofs.target_span.Lts as lts
+use Rattle.reading.proofs.first_target.Reads as first-target-reads
+use Rattle.reading.proofs.verdict.Reads as verdict-reads
+
+-- src/lib.rt:689:9
+verdict-requires : tie.Need-verdict-requires
+verdict-requires c κs = search needs
+
+-- src/lib.rt:694:14
+enum-told : tie.Need-enum-told
+enum-told c = search needs
+
+-- src/lib.rt:695:26
+enum-told-2 : tie.Need-enum-told-2
+enum-told-2 c = search needs
+
+-- src/lib.rt:695:26
+first-target-requires : tie.Need-first-target-requires
+first-target-requires c κs =
+    let line = c .before .before .before .before .args .line .now in
+    let v = sym (c .before .before .verdict .ensures) ∙ c .enum-told2 .given .1 in
+    ap verdictIn (sym (fine-left line (fine-lexical line v))) ∙ v
+
+-- src/lib.rt:686:1
+returns : tie.Need-returns
+returns c =
+    let line = c .before .before .before .before .args .line .now in
+    sym (ap targetIn (verdict-refused (readingOf line) _ _ (sym (c .enum-told .given .1) ∙ c .before .before .verdict .ensures)))
+
+-- src/lib.rt:686:1
+returns-2 : tie.Need-returns-2
+returns-2 c =
+    let line = c .before .before .before .before .before .args .line .now in
+    let v = sym (c .before .before .before .verdict .ensures) ∙ c .before .enum-told2 .given .1 in
+    c .first-target .ensures ∙ ap targetIn (sym (fine-left line (fine-lexical line v)))
+
+pub target-span-spec : {M : Type 1} → statement M
+target-span-spec =
+    tie.close
+    (tie.spec verdict-requires enum-told enum-told-2 first-target-requires returns returns-2)
