@@ -8,3 +8,4 @@ pub mod Room
 pub mod Grave
 pub mod Within
 pub mod Named
+pub mod Only

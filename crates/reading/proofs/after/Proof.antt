@@ -1,3 +1,4 @@
+-- `reading::after` meets its contract. Assumes nothing.
 use mathlib.Core.Path.{ap}
 use Rattle.reading.specs.Shown.{counted}
 use native.Mathlib.Omega.{arith}
@@ -9,57 +10,44 @@ use Rattle.reading.proofs.after.Lts as lts
 use Rattle.reading.proofs.marked.Reads as marked-reads
 use Rattle.reading.proofs.phase_after.Reads as phase-after-reads
 
--- src/lib.rt:266:21
 enum-known-i : tie.Need-enum-known-i
 enum-known-i c = search needs
 
--- src/lib.rt:272:23
 enum-known-i-2 : tie.Need-enum-known-i-2
 enum-known-i-2 c = search needs
 
--- src/lib.rt:273:17
 phase-after-requires : tie.Need-phase-after-requires
 phase-after-requires c κs = search needs
 
--- src/lib.rt:274:17
 marked-requires : tie.Need-marked-requires
 marked-requires c κs = search needs
 
--- src/lib.rt:283:20
 enum-told : tie.Need-enum-told
 enum-told c = search needs
 
--- src/lib.rt:289:20
 enum-told-2 : tie.Need-enum-told-2
 enum-told-2 c = search needs
 
--- src/lib.rt:298:20
 enum-told-3 : tie.Need-enum-told-3
 enum-told-3 c = search needs
 
--- src/lib.rt:301:20
 add-t16 : tie.Need-add-t16
 add-t16 c =
     let h = c .before .before .before .pre (ap counted (c .enum-told3 .given .1)) in
     omega arith
 
--- src/lib.rt:258:1
 returns : tie.Need-returns
 returns c = rw (c .before .i .given .1)
 
--- src/lib.rt:258:1
 returns-2 : tie.Need-returns-2
 returns-2 c = rw (c .before .before .before .i2 .given .1, c .marked .ensures, c .before .phase-after .ensures)
 
--- src/lib.rt:258:1
 returns-3 : tie.Need-returns-3
 returns-3 c = rw (c .enum-told .given .1)
 
--- src/lib.rt:258:1
 returns-4 : tie.Need-returns-4
 returns-4 c = rw (c .enum-told2 .given .1)
 
--- src/lib.rt:258:1
 returns-5 : tie.Need-returns-5
 returns-5 c = rw (c .enum-told3 .given .1)
 

@@ -1,14 +1,13 @@
+-- `reading::argument_if` meets its contract. Assumes nothing.
 use borrow.Author.Needs.{needs}
 use Rattle.reading.proofs.argument_if.Statement.{statement}
 use Rattle.reading.proofs.argument_if.Tie as tie
 use Rattle.reading.proofs.argument_if.Reads as reads
 use Rattle.reading.proofs.argument_if.Lts as lts
 
--- src/lib.rt:130:9
 returns : tie.Need-returns
 returns c = rw (c .if1 .taken)
 
--- src/lib.rt:126:1
 returns-2 : tie.Need-returns-2
 returns-2 c = search needs
 

@@ -1,22 +1,19 @@
+-- `reading::by_shape` meets its contract. Assumes nothing.
 use borrow.Author.Needs.{needs}
 use Rattle.reading.proofs.by_shape.Statement.{statement}
 use Rattle.reading.proofs.by_shape.Tie as tie
 use Rattle.reading.proofs.by_shape.Reads as reads
 use Rattle.reading.proofs.by_shape.Lts as lts
 
--- src/lib.rt:172:21
 enum-known-k : tie.Need-enum-known-k
 enum-known-k c = search needs
 
--- src/lib.rt:173:22
 enum-told : tie.Need-enum-told
 enum-told c = search needs
 
--- src/lib.rt:168:1
 returns : tie.Need-returns
 returns c = rw (c .before .k .given .1)
 
--- src/lib.rt:168:1
 returns-2 : tie.Need-returns-2
 returns-2 c = search needs
 

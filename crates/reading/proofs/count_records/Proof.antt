@@ -1,3 +1,4 @@
+-- `reading::count_records` meets its contract. The loop's invariant: the bytes counted so far and those of what is left are the line's. Assumes nothing.
 use borrow.Author.Needs.{needs}
 use Prim.Native.Nat.{ℕ, _+_, _-_, _*_, _≤_}
 use mathlib.Core.Path.{_≡_, refl, sym, ap, _∙_}
@@ -23,23 +24,18 @@ Inv-loop line c₀ n₀ c n = (totalFrom n (left line c) ≡ totalFrom 0 (left l
 abbrev μ-loop : tie.MeasureT-loop
 μ-loop line c₀ n₀ c n = length line - c .at
 
--- src/lib.rt:541:9
 begin-requires : tie.Need-begin-requires Inv-loop μ-loop
 begin-requires c κs = search needs
 
--- src/lib.rt:543:5
 loop-holds : tie.Need-loop-holds Inv-loop μ-loop
 loop-holds c = rw (c .begin .ensures) (refl, omega arith, omega arith)
 
--- src/lib.rt:544:13
 next-requires : tie.Need-next-requires Inv-loop μ-loop
 next-requires c κs = search needs
 
--- src/lib.rt:547:27
 enum-told : tie.Need-enum-told Inv-loop μ-loop
 enum-told c = search needs
 
--- src/lib.rt:547:27
 returns : tie.Need-returns Inv-loop μ-loop
 unfolding recordsOf
 returns c =
@@ -48,11 +44,9 @@ returns c =
     let line = l .before .before .before .args .line .now in
     ap Wrote (omega arith) ∙ sym (ap (totalFrom (l .loop .n)) (step-end line (l .loop .c) (nx .next .result) (nx .next .ensures) (c .enum-told .given .1))) ∙ l .loop .inv .0
 
--- src/lib.rt:548:30
 enum-known-g : tie.Need-enum-known-g Inv-loop μ-loop
 enum-known-g c = search needs
 
--- src/lib.rt:548:49
 returns-2 : tie.Need-returns-2 Inv-loop μ-loop
 returns-2 c =
     let nx = c .before .before .before in
@@ -60,15 +54,12 @@ returns-2 c =
     let line = l .before .before .before .args .line .now in
     sym (ap (totalFrom (l .loop .n)) (step-refused line (l .loop .c) (nx .next .result) (nx .next .ensures) _ _ (c .before .g .given .1))) ∙ l .loop .inv .0
 
--- src/lib.rt:550:17
 enum-known-g-2 : tie.Need-enum-known-g-2 Inv-loop μ-loop
 enum-known-g-2 c = search needs
 
--- src/lib.rt:554:22
 record-size-requires : tie.Need-record-size-requires Inv-loop μ-loop
 record-size-requires c κs = search needs
 
--- src/lib.rt:554:17
 add-n : tie.Need-add-n Inv-loop μ-loop
 add-n c =
     let nx = c .before .before .before .before in
@@ -77,7 +68,6 @@ add-n c =
     let w = step-part line (l .loop .c) (nx .next .result) (nx .next .ensures) _ _ _ (c .before .before .g2 .given .1) in
     omega (arith, size-most (c .before .before .g2 .given .0 .0), c .record-size .ensures)
 
--- src/lib.rt:543:5
 loop-less : tie.Need-loop-less Inv-loop μ-loop
 loop-less c =
     let nx = c .before .before .before .before .before in
@@ -86,7 +76,6 @@ loop-less c =
     let w = step-part line (l .loop .c) (nx .next .result) (nx .next .ensures) _ _ _ (c .before .before .before .g2 .given .1) in
     omega arith
 
--- src/lib.rt:543:5
 loop-again : tie.Need-loop-again Inv-loop μ-loop
 loop-again c =
     let nx = c .before .before .before .before .before in

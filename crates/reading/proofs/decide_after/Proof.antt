@@ -1,3 +1,4 @@
+-- `reading::decide_after` meets its contract. Assumes nothing.
 use mathlib.Core.Path.{_≡_, refl, sym, ap, _∙_}
 use lib.Seq.{length-take-le}
 use native.Mathlib.Omega.{arith}
@@ -13,29 +14,23 @@ use Rattle.reading.proofs.decide_property.Reads as decide-property-read
 use Rattle.reading.proofs.decide_target.Reads as decide-target-reads
 use Rattle.terms.proofs.has_bare.Reads as has-bare-reads
 
--- src/lib.rt:196:9
 decide-property-requires : tie.Need-decide-property-requires
 decide-property-requires c κs = search needs
 
--- src/lib.rt:196:9
 returns : tie.Need-returns
 returns c =
     let a = c .before .before .before .args in
     c .decide-property .ensures ∙ ap decidedOf (after-topic (a .help) (a .count) (take (a .n) (a .s .now)) (c .before .if1 .taken))
 
--- src/lib.rt:198:9
 slice-aggregate-t : tie.Need-slice-aggregate-t
 slice-aggregate-t c = let a = c .before .before .before .args in sym (length-take-le (a .n) (a .s .now) (omega arith))
 
--- src/lib.rt:199:8
 has-bare-requires : tie.Need-has-bare-requires
 has-bare-requires c κs = search needs
 
--- src/lib.rt:200:9
 decide-property-requires-2 : tie.Need-decide-property-requires-2
 decide-property-requires-2 c κs = search needs
 
--- src/lib.rt:200:9
 returns-2 : tie.Need-returns-2
 returns-2 c =
     let b = c .before .before in
@@ -44,11 +39,9 @@ returns-2 c =
     c .decide-property2 .ensures
     ∙ ap decidedOf (after-property (a .help) (a .count) (take (a .n) (a .s .now)) (i .if1 .left) (sym (b .has-bare .ensures) ∙ c .before .if2 .taken))
 
--- src/lib.rt:202:5
 decide-target-requires : tie.Need-decide-target-requires
 decide-target-requires c κs = search needs
 
--- src/lib.rt:191:1
 returns-3 : tie.Need-returns-3
 returns-3 c =
     let b = c .before .before in

@@ -1,3 +1,4 @@
+-- `reading::decide_argument` meets its contract. Assumes nothing.
 use mathlib.Core.Path.{_≡_, refl, sym, ap, _∙_}
 use lib.Seq.{length-take-le}
 use native.Mathlib.Omega.{arith}
@@ -19,77 +20,59 @@ use Rattle.reading.proofs.argument_if.Reads as argument-if-reads
 use Rattle.terms.proofs.starts_bare.Reads as starts-bare-reads
 use Rattle.words.proofs.kind_of.Reads as kind-of-reads
 
--- src/lib.rt:140:9
 slice-aggregate-t : tie.Need-slice-aggregate-t
 slice-aggregate-t c = let a = c .before .before .args in sym (length-take-le (a .n) (a .s .now) (omega arith))
 
--- src/lib.rt:141:8
 starts-bare-requires : tie.Need-starts-bare-requires
 starts-bare-requires c κs = search needs
 
--- src/lib.rt:142:9
 returns : tie.Need-returns
 returns c =
     let a = c .before .before .before .before .args in
     argument-dash (a .option) (take (a .n) (a .s .now)) (sym (c .before .starts-bare .ensures) ∙ c .if1 .taken)
 
--- src/lib.rt:144:9
 kind-of-requires : tie.Need-kind-of-requires
 kind-of-requires c κs = search needs
 
--- src/lib.rt:146:23
 enum-told : tie.Need-enum-told
 enum-told c = search needs
 
--- src/lib.rt:147:35
 enum-told-2 : tie.Need-enum-told-2
 enum-told-2 c = search needs
 
--- src/lib.rt:147:35
 is-keep-requires : tie.Need-is-keep-requires
 is-keep-requires c κs = search needs
 
--- src/lib.rt:147:23
 argument-if-requires : tie.Need-argument-if-requires
 argument-if-requires c κs = search needs
 
--- src/lib.rt:148:36
 enum-told-3 : tie.Need-enum-told-3
 enum-told-3 c = search needs
 
--- src/lib.rt:148:36
 is-level-requires : tie.Need-is-level-requires
 is-level-requires c κs = search needs
 
--- src/lib.rt:148:24
 argument-if-requires-2 : tie.Need-argument-if-requires-2
 argument-if-requires-2 c κs = search needs
 
--- src/lib.rt:149:36
 enum-told-4 : tie.Need-enum-told-4
 enum-told-4 c = search needs
 
--- src/lib.rt:149:36
 is-place-requires : tie.Need-is-place-requires
 is-place-requires c κs = search needs
 
--- src/lib.rt:149:24
 argument-if-requires-3 : tie.Need-argument-if-requires-3
 argument-if-requires-3 c κs = search needs
 
--- src/lib.rt:150:38
 enum-told-5 : tie.Need-enum-told-5
 enum-told-5 c = search needs
 
--- src/lib.rt:150:38
 are-entries-requires : tie.Need-are-entries-requires
 are-entries-requires c κs = search needs
 
--- src/lib.rt:150:26
 argument-if-requires-4 : tie.Need-argument-if-requires-4
 argument-if-requires-4 c κs = search needs
 
--- src/lib.rt:136:1
 returns-2 : tie.Need-returns-2
 returns-2 c =
     let k = c .before .before in
@@ -98,7 +81,6 @@ returns-2 c =
     let d = sym (k .kind-of .ensures) ∙ c .enum-told .given .1 in
     rw d at (argument-decided (a .option) (take (a .n) (a .s .now)) (sym (s .starts-bare .ensures) ∙ k .before .if1 .left))
 
--- src/lib.rt:136:1
 returns-3 : tie.Need-returns-3
 returns-3 c =
     let k = c .before .before .before .before in
@@ -108,7 +90,6 @@ returns-3 c =
     c .argument-if .ensures ∙ ap (λ (x : Bool). argumentIf x (a .option)) (c .before .is-keep .ensures)
     ∙ (rw d at (argument-decided (a .option) (take (a .n) (a .s .now)) (sym (s .starts-bare .ensures) ∙ k .before .if1 .left)))
 
--- src/lib.rt:136:1
 returns-4 : tie.Need-returns-4
 returns-4 c =
     let k = c .before .before .before .before in
@@ -118,7 +99,6 @@ returns-4 c =
     c .argument-if2 .ensures ∙ ap (λ (x : Bool). argumentIf x (a .option)) (c .before .is-level .ensures)
     ∙ (rw d at (argument-decided (a .option) (take (a .n) (a .s .now)) (sym (s .starts-bare .ensures) ∙ k .before .if1 .left)))
 
--- src/lib.rt:136:1
 returns-5 : tie.Need-returns-5
 returns-5 c =
     let k = c .before .before .before .before in
@@ -128,7 +108,6 @@ returns-5 c =
     c .argument-if3 .ensures ∙ ap (λ (x : Bool). argumentIf x (a .option)) (c .before .is-place .ensures)
     ∙ (rw d at (argument-decided (a .option) (take (a .n) (a .s .now)) (sym (s .starts-bare .ensures) ∙ k .before .if1 .left)))
 
--- src/lib.rt:136:1
 returns-6 : tie.Need-returns-6
 unfolding areEntriesIn
 returns-6 c =

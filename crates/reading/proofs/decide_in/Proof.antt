@@ -1,3 +1,4 @@
+-- `reading::decide_in` meets its contract. Assumes nothing.
 use mathlib.Core.Path.{_≡_, refl, sym, ap, _∙_}
 use lib.Seq.{length-take-le}
 use native.Mathlib.Omega.{arith}
@@ -16,84 +17,66 @@ use Rattle.reading.proofs.decide_property.Reads as decide-property-read
 use Rattle.reading.proofs.decide_verb.Reads as decide-verb-reads
 use Rattle.terms.proofs.starts_bare.Reads as starts-bare-reads
 
--- src/lib.rt:210:9
 slice-aggregate-t : tie.Need-slice-aggregate-t
 slice-aggregate-t c = let a = c .before .before .args in sym (length-take-le (a .n) (a .s .now) (omega arith))
 
--- src/lib.rt:212:25
 enum-told : tie.Need-enum-told
 enum-told c = search needs
 
--- src/lib.rt:212:25
 decide-verb-requires : tie.Need-decide-verb-requires
 decide-verb-requires c κs = search needs
 
--- src/lib.rt:214:16
 enum-told-2 : tie.Need-enum-told-2
 enum-told-2 c = search needs
 
--- src/lib.rt:214:16
 starts-bare-requires : tie.Need-starts-bare-requires
 starts-bare-requires c κs = search needs
 
--- src/lib.rt:215:17
 decide-option-requires : tie.Need-decide-option-requires
 decide-option-requires c κs = search needs
 
--- src/lib.rt:215:17
 returns : tie.Need-returns
 returns c =
     let s = c .before .before in
     let a = s .before .before .before .before .before .args in
     rw (s .before .enum-told2 .given .1) (c .decide-option .ensures ∙ ap decidedOf (in-option (a .help) (a .seen) (a .count) (take (a .n) (a .s .now)) (sym (s .starts-bare .ensures) ∙ c .before .if1 .taken)))
 
--- src/lib.rt:217:13
 decide-after-requires : tie.Need-decide-after-requires
 decide-after-requires c κs = search needs
 
--- src/lib.rt:219:22
 enum-known-phase : tie.Need-enum-known-phase
 enum-known-phase c = search needs
 
--- src/lib.rt:219:33
 decide-argument-requires : tie.Need-decide-argument-requires
 decide-argument-requires c κs = search needs
 
--- src/lib.rt:221:16
 enum-told-3 : tie.Need-enum-told-3
 enum-told-3 c = search needs
 
--- src/lib.rt:221:16
 starts-bare-requires-2 : tie.Need-starts-bare-requires-2
 starts-bare-requires-2 c κs = search needs
 
--- src/lib.rt:222:17
 returns-2 : tie.Need-returns-2
 returns-2 c =
     let s = c .before in
     let a = s .before .before .before .before .before .args in
     rw (s .before .enum-told3 .given .1) (ap decidedOf (in-dash (a .help) (a .seen) (a .count) (take (a .n) (a .s .now)) (sym (s .starts-bare2 .ensures) ∙ c .if2 .taken)))
 
--- src/lib.rt:224:13
 decide-property-requires : tie.Need-decide-property-requires
 decide-property-requires c κs = search needs
 
--- src/lib.rt:206:1
 returns-3 : tie.Need-returns-3
 returns-3 c = rw (c .before .enum-told .given .1) (c .decide-verb .ensures)
 
--- src/lib.rt:206:1
 returns-4 : tie.Need-returns-4
 returns-4 c =
     let s = c .before .before in
     let a = s .before .before .before .before .before .args in
     rw (s .before .enum-told2 .given .1) (c .decide-after .ensures ∙ ap decidedOf (in-after (a .help) (a .seen) (a .count) (take (a .n) (a .s .now)) (sym (s .starts-bare .ensures) ∙ c .before .if1 .left)))
 
--- src/lib.rt:206:1
 returns-5 : tie.Need-returns-5
 returns-5 c = rw (c .before .before .phase .given .1) (c .decide-argument .ensures)
 
--- src/lib.rt:206:1
 returns-6 : tie.Need-returns-6
 returns-6 c =
     let s = c .before .before in

@@ -1,3 +1,4 @@
+-- `reading::decide_option` meets its contract. Assumes nothing.
 use mathlib.Core.Path.{_≡_, refl, sym, ap, _∙_}
 use Rattle.reading.proofs.Decisions.{option-cite, option-empty}
 use borrow.Author.Needs.{needs}
@@ -8,53 +9,42 @@ use Rattle.reading.proofs.decide_option.Lts as lts
 use Rattle.reading.proofs.was_seen.Reads as was-seen-reads
 use Rattle.words.proofs.option.Reads as option-reads
 
--- src/lib.rt:112:9
 returns : tie.Need-returns
 returns c = option-empty (c .before .before .args .seen) (c .before .before .args .t .now) (c .if1 .taken)
 
--- src/lib.rt:114:27
 sub-option : tie.Need-sub-option
 sub-option c = search needs
 
--- src/lib.rt:114:27
 part-option-start : tie.Need-part-option-start
 part-option-start c = search needs
 
--- src/lib.rt:114:27
 part-option-end : tie.Need-part-option-end
 part-option-end c = search needs
 
--- src/lib.rt:114:9
 option-requires : tie.Need-option-requires
 option-requires c κs = search needs
 
--- src/lib.rt:116:19
 enum-known-k : tie.Need-enum-known-k
 enum-known-k c = search needs
 
--- src/lib.rt:117:16
 was-seen-requires : tie.Need-was-seen-requires
 was-seen-requires c κs = search needs
 
--- src/lib.rt:118:17
 returns-2 : tie.Need-returns-2
 returns-2 c =
     let o = c .before .before .before .before .before in
     let a = o .before .before .before .before .args in
     rw (sym (c .before .was-seen .ensures) ∙ c .if2 .taken) at (rw (c .before .before .before .k .given .1) at (option-cite (a .seen) (a .t .now) (o .option .result) (o .option .ensures)))
 
--- src/lib.rt:122:27
 enum-told : tie.Need-enum-told
 enum-told c = search needs
 
--- src/lib.rt:108:1
 returns-3 : tie.Need-returns-3
 returns-3 c =
     let o = c .before .before .before .before .before in
     let a = o .before .before .before .before .args in
     rw (sym (c .before .was-seen .ensures) ∙ c .if2 .left) at (rw (c .before .before .before .k .given .1) at (option-cite (a .seen) (a .t .now) (o .option .result) (o .option .ensures)))
 
--- src/lib.rt:108:1
 returns-4 : tie.Need-returns-4
 returns-4 c =
     let o = c .before .before in

@@ -1,3 +1,4 @@
+-- `reading::decide_property` meets its contract. Assumes nothing.
 use mathlib.Core.Path.{_≡_, refl, sym, ap, _∙_}
 use lib.Seq.{length-take-le}
 use native.Mathlib.Omega.{arith}
@@ -19,25 +20,20 @@ use Rattle.forms.proofs.property_of.Reads as property-of-reads
 use Rattle.forms.proofs.topic_of.Reads as topic-of-reads
 use Rattle.reading.proofs.by_shape.Reads as by-shape-reads
 
--- src/lib.rt:182:9
 returns : tie.Need-returns
 returns c =
     let a = c .before .before .args in
     property-many (a .count) (take (a .n) (a .s .now)) (a .help) (c .if1 .taken)
 
--- src/lib.rt:185:41
 slice-aggregate-topic-of : tie.Need-slice-aggregate-topic-of
 slice-aggregate-topic-of c = let a = c .before .before .before .before .args in sym (length-take-le (a .n) (a .s .now) (omega arith))
 
--- src/lib.rt:185:25
 topic-of-requires : tie.Need-topic-of-requires
 topic-of-requires c κs = search needs
 
--- src/lib.rt:185:9
 by-shape-requires : tie.Need-by-shape-requires
 by-shape-requires c κs = search needs
 
--- src/lib.rt:185:9
 returns-2 : tie.Need-returns-2
 returns-2 c =
     let i = c .before .before .before in
@@ -46,15 +42,12 @@ returns-2 c =
     ∙ topic-decided (a .count) (take (a .n) (a .s .now)) (i .before .if1 .left)
     ∙ ap (λ (h : Bool). decidedOf (decideProperty h (a .count) (signs Out (take (a .n) (a .s .now))))) (sym (i .if2 .taken))
 
--- src/lib.rt:187:14
 property-of-requires : tie.Need-property-of-requires
 property-of-requires c κs = search needs
 
--- src/lib.rt:187:5
 by-shape-requires-2 : tie.Need-by-shape-requires-2
 by-shape-requires-2 c κs = search needs
 
--- src/lib.rt:177:1
 returns-3 : tie.Need-returns-3
 unfolding propertyIn
 returns-3 c =

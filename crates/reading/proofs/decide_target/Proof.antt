@@ -1,3 +1,4 @@
+-- `reading::decide_target` meets its contract. Assumes nothing.
 use mathlib.Core.Path.{_≡_, refl, sym, ap, _∙_}
 use Rattle.reading.proofs.Decisions.{byWhere, target-decided}
 use borrow.Author.Needs.{needs}
@@ -7,35 +8,28 @@ use Rattle.reading.proofs.decide_target.Reads as reads
 use Rattle.reading.proofs.decide_target.Lts as lts
 use Rattle.forms.proofs.target_of.Reads as target-of-reads
 
--- src/lib.rt:157:9
 target-of-requires : tie.Need-target-of-requires
 target-of-requires c κs = search needs
 
--- src/lib.rt:159:42
 enum-told : tie.Need-enum-told
 enum-told c = search needs
 
--- src/lib.rt:163:29
 enum-told-2 : tie.Need-enum-told-2
 enum-told-2 c = search needs
 
--- src/lib.rt:164:22
 enum-told-3 : tie.Need-enum-told-3
 enum-told-3 c = search needs
 
--- src/lib.rt:154:1
 returns : tie.Need-returns
 returns c =
     let w = c .before .before in
     sym (ap byWhere (c .enum-told .given .1)) ∙ ap byWhere (w .target-of .ensures) ∙ target-decided (w .before .before .args .t .now)
 
--- src/lib.rt:154:1
 returns-2 : tie.Need-returns-2
 returns-2 c =
     let w = c .before .before in
     sym (ap byWhere (c .enum-told2 .given .1)) ∙ ap byWhere (w .target-of .ensures) ∙ target-decided (w .before .before .args .t .now)
 
--- src/lib.rt:154:1
 returns-3 : tie.Need-returns-3
 returns-3 c =
     let w = c .before .before in

@@ -1,3 +1,4 @@
+-- `reading::decide_verb` meets its contract. Assumes nothing.
 use mathlib.Core.Path.{_≡_, refl, sym, ap, _∙_}
 use Rattle.reading.proofs.Decisions.{byVerb, verb-decided}
 use borrow.Author.Needs.{needs}
@@ -7,25 +8,20 @@ use Rattle.reading.proofs.decide_verb.Reads as reads
 use Rattle.reading.proofs.decide_verb.Lts as lts
 use Rattle.words.proofs.verb.Reads as verb-reads
 
--- src/lib.rt:91:9
 verb-requires : tie.Need-verb-requires
 verb-requires c κs = search needs
 
--- src/lib.rt:93:19
 enum-known-k : tie.Need-enum-known-k
 enum-known-k c = search needs
 
--- src/lib.rt:94:27
 enum-told : tie.Need-enum-told
 enum-told c = search needs
 
--- src/lib.rt:88:1
 returns : tie.Need-returns
 returns c =
     let v = c .before .before .before in
     sym (ap byVerb (c .before .k .given .1)) ∙ ap byVerb (v .verb .ensures) ∙ verb-decided (v .before .before .args .t .now)
 
--- src/lib.rt:88:1
 returns-2 : tie.Need-returns-2
 returns-2 c =
     let v = c .before .before in

@@ -1,38 +1,31 @@
+-- `reading::end_step` meets its contract. Assumes nothing.
 use borrow.Author.Needs.{needs}
 use Rattle.reading.proofs.end_step.Statement.{statement}
 use Rattle.reading.proofs.end_step.Tie as tie
 use Rattle.reading.proofs.end_step.Reads as reads
 use Rattle.reading.proofs.end_step.Lts as lts
 
--- src/lib.rt:312:20
 enum-told : tie.Need-enum-told
 enum-told c = search needs
 
--- src/lib.rt:316:20
 enum-told-2 : tie.Need-enum-told-2
 enum-told-2 c = search needs
 
--- src/lib.rt:320:20
 enum-told-3 : tie.Need-enum-told-3
 enum-told-3 c = search needs
 
--- src/lib.rt:327:20
 enum-told-4 : tie.Need-enum-told-4
 enum-told-4 c = search needs
 
--- src/lib.rt:307:1
 returns : tie.Need-returns
 returns c = rw (c .enum-told .given .1)
 
--- src/lib.rt:307:1
 returns-2 : tie.Need-returns-2
 returns-2 c = rw (c .enum-told2 .given .1)
 
--- src/lib.rt:307:1
 returns-3 : tie.Need-returns-3
 returns-3 c = rw (c .enum-told3 .given .1)
 
--- src/lib.rt:307:1
 returns-4 : tie.Need-returns-4
 returns-4 c = rw (c .enum-told4 .given .1)
 

@@ -1,3 +1,4 @@
+-- `reading::first_target` meets its contract. The loop's invariant: what is left has the line's target. Assumes nothing.
 use borrow.Author.Needs.{needs}
 use Prim.Native.Nat.{ℕ, _+_, _-_, _*_, _≤_}
 use mathlib.Core.Path.{_≡_, refl, sym, ap, _∙_}
@@ -23,23 +24,18 @@ Inv-loop line c₀ c = (targetIn (left line c) ≡ targetIn (left line start)) �
 abbrev μ-loop : tie.MeasureT-loop
 μ-loop line c₀ c = length line - c .at
 
--- src/lib.rt:665:9
 begin-requires : tie.Need-begin-requires Inv-loop μ-loop
 begin-requires c κs = search needs
 
--- src/lib.rt:666:5
 loop-holds : tie.Need-loop-holds Inv-loop μ-loop
 loop-holds c = rw (c .begin .ensures) (refl, c .before .before .pre, omega arith)
 
--- src/lib.rt:667:13
 next-requires : tie.Need-next-requires Inv-loop μ-loop
 next-requires c κs = search needs
 
--- src/lib.rt:670:27
 enum-told : tie.Need-enum-told Inv-loop μ-loop
 enum-told c = search needs
 
--- src/lib.rt:670:27
 returns : tie.Need-returns Inv-loop μ-loop
 unfolding targetSpan
 returns c =
@@ -48,11 +44,9 @@ returns c =
     let line = l .before .before .before .args .line .now in
     sym (ap targetIn (step-end line (l .loop .c) (nx .next .result) (nx .next .ensures) (c .enum-told .given .1))) ∙ l .loop .inv .0
 
--- src/lib.rt:674:18
 enum-told-2 : tie.Need-enum-told-2 Inv-loop μ-loop
 enum-told-2 c = search needs
 
--- src/lib.rt:674:18
 returns-2 : tie.Need-returns-2 Inv-loop μ-loop
 returns-2 c =
     let nx = c .before .before in
@@ -60,15 +54,12 @@ returns-2 c =
     let line = l .before .before .before .args .line .now in
     refused-fine (left line (l .loop .c)) _ _ (step-refused line (l .loop .c) (nx .next .result) (nx .next .ensures) _ _ (c .enum-told2 .given .1)) (l .loop .inv .1)
 
--- src/lib.rt:675:27
 enum-known-g : tie.Need-enum-known-g Inv-loop μ-loop
 enum-known-g c = search needs
 
--- src/lib.rt:676:20
 is-target-requires : tie.Need-is-target-requires Inv-loop μ-loop
 is-target-requires c κs = search needs
 
--- src/lib.rt:677:21
 returns-3 : tie.Need-returns-3 Inv-loop μ-loop
 returns-3 c =
     let nx = c .before .before .before .before .before in
@@ -77,7 +68,6 @@ returns-3 c =
     let w = step-part line (l .loop .c) (nx .next .result) (nx .next .ensures) _ _ _ (c .before .before .before .g .given .1) in
     sym (rw (sym (c .before .is-target .ensures) ∙ c .if1 .taken) at (target-part line (l .loop .c) _ _ _ (nx .next .result .next) w (l .loop .inv .1))) ∙ l .loop .inv .0
 
--- src/lib.rt:666:5
 loop-less : tie.Need-loop-less Inv-loop μ-loop
 loop-less c =
     let nx = c .before .before .before .before .before .before in
@@ -86,7 +76,6 @@ loop-less c =
     let w = step-part line (l .loop .c) (nx .next .result) (nx .next .ensures) _ _ _ (c .before .before .before .before .g .given .1) in
     omega arith
 
--- src/lib.rt:666:5
 loop-again : tie.Need-loop-again Inv-loop μ-loop
 loop-again c =
     let nx = c .before .before .before .before .before .before in

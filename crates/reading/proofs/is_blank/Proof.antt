@@ -1,3 +1,4 @@
+-- `reading::is_blank` meets its contract. Assumes nothing.
 use mathlib.Core.Path.{_≡_, refl, sym, ap, _∙_}
 use Rattle.text.specs.Lists.{isNil}
 use Rattle.terms.specs.Terms.{termsOf}
@@ -9,26 +10,21 @@ use Rattle.reading.proofs.is_blank.Reads as reads
 use Rattle.reading.proofs.is_blank.Lts as lts
 use Rattle.terms.proofs.term_at.Reads as term-at-reads
 
--- src/lib.rt:529:9
 term-at-requires : tie.Need-term-at-requires
 term-at-requires c κs = search needs
 
--- src/lib.rt:531:45
 enum-told : tie.Need-enum-told
 enum-told c = search needs
 
--- src/lib.rt:532:24
 enum-told-2 : tie.Need-enum-told-2
 enum-told-2 c = search needs
 
--- src/lib.rt:526:1
 returns : tie.Need-returns
 unfolding termsOf
 returns c =
     let t = c .before .before in
     sym (ap isNil (terms-some (t .before .before .args .line .now) 0 _ _ (sym (c .enum-told .given .1) ∙ t .term-at .ensures)))
 
--- src/lib.rt:526:1
 returns-2 : tie.Need-returns-2
 unfolding termsOf
 returns-2 c =

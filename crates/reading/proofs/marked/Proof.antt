@@ -1,3 +1,4 @@
+-- `reading::marked` meets its contract. Assumes nothing.
 use mathlib.Core.Path.{_≡_, refl, sym, ap, _∙_}
 use native.Mathlib.Omega.{arith}
 use lib.Seq.{set-out}
@@ -7,15 +8,12 @@ use Rattle.reading.proofs.marked.Tie as tie
 use Rattle.reading.proofs.marked.Reads as reads
 use Rattle.reading.proofs.marked.Lts as lts
 
--- src/lib.rt:238:9
 array-write-m : tie.Need-array-write-m
 array-write-m c = search needs
 
--- src/lib.rt:239:9
 returns : tie.Need-returns
 returns c = search needs
 
--- src/lib.rt:232:1
 returns-2 : tie.Need-returns-2
 returns-2 c = sym (set-out (c .before .args .seen) _ _ (omega arith))
 

@@ -1,3 +1,4 @@
+-- `reading::needed` meets its contract. Assumes nothing.
 use mathlib.Core.Path.{_≡_, refl, sym, ap, _∙_}
 use Rattle.reading.specs.Shown.{neededIn}
 use Rattle.reading.proofs.Folds.{fine-left, flawed-left, fine-short, blank-left, total-needed}
@@ -10,23 +11,18 @@ use Rattle.reading.proofs.count_records.Reads as count-records-reads
 use Rattle.reading.proofs.is_blank.Reads as is-blank-reads
 use Rattle.terms.proofs.lexical.Reads as lexical-reads
 
--- src/lib.rt:565:9
 lexical-requires : tie.Need-lexical-requires
 lexical-requires c κs = search needs
 
--- src/lib.rt:567:27
 enum-known-v : tie.Need-enum-known-v
 enum-known-v c = search needs
 
--- src/lib.rt:569:16
 enum-told : tie.Need-enum-told
 enum-told c = search needs
 
--- src/lib.rt:569:16
 is-blank-requires : tie.Need-is-blank-requires
 is-blank-requires c κs = search needs
 
--- src/lib.rt:570:17
 returns : tie.Need-returns
 returns c =
     let x = c .before .before .before .before in
@@ -34,21 +30,18 @@ returns c =
     let f = sym (x .lexical .ensures) ∙ c .before .before .enum-told .given .1 in
     sym (ap neededIn (fine-left line f ∙ blank-left line (sym (c .before .is-blank .ensures) ∙ c .if1 .taken)))
 
--- src/lib.rt:572:13
 count-records-requires : tie.Need-count-records-requires
 count-records-requires c κs =
     let x = c .before .before .before .before in
     let line = x .before .before .args .line .now in
     fine-short line (sym (x .lexical .ensures) ∙ c .before .before .enum-told .given .1)
 
--- src/lib.rt:562:1
 returns-2 : tie.Need-returns-2
 returns-2 c =
     let x = c .before .before .before in
     let line = x .before .before .args .line .now in
     sym (ap neededIn (flawed-left line _ _ (sym (x .lexical .ensures) ∙ c .before .v .given .1)))
 
--- src/lib.rt:562:1
 returns-3 : tie.Need-returns-3
 returns-3 c =
     let x = c .before .before .before .before .before in

@@ -1,3 +1,4 @@
+-- `reading::option_size` meets its contract. Assumes nothing.
 use mathlib.Core.Path.{_≡_, refl, sym, ap, _∙_}
 use borrow.Author.Needs.{needs}
 use Rattle.reading.proofs.option_size.Statement.{statement}
@@ -6,47 +7,36 @@ use Rattle.reading.proofs.option_size.Reads as reads
 use Rattle.reading.proofs.option_size.Lts as lts
 use Rattle.words.proofs.kind_of.Reads as kind-of-reads
 
--- src/lib.rt:498:9
 kind-of-requires : tie.Need-kind-of-requires
 kind-of-requires c κs = search needs
 
--- src/lib.rt:500:23
 enum-told : tie.Need-enum-told
 enum-told c = search needs
 
--- src/lib.rt:501:23
 enum-told-2 : tie.Need-enum-told-2
 enum-told-2 c = search needs
 
--- src/lib.rt:502:24
 enum-told-3 : tie.Need-enum-told-3
 enum-told-3 c = search needs
 
--- src/lib.rt:503:24
 enum-told-4 : tie.Need-enum-told-4
 enum-told-4 c = search needs
 
--- src/lib.rt:504:26
 enum-told-5 : tie.Need-enum-told-5
 enum-told-5 c = search needs
 
--- src/lib.rt:495:1
 returns : tie.Need-returns
 returns c = rw (sym (c .before .before .kind-of .ensures) ∙ c .enum-told .given .1)
 
--- src/lib.rt:495:1
 returns-2 : tie.Need-returns-2
 returns-2 c = rw (sym (c .before .before .kind-of .ensures) ∙ c .enum-told2 .given .1)
 
--- src/lib.rt:495:1
 returns-3 : tie.Need-returns-3
 returns-3 c = rw (sym (c .before .before .kind-of .ensures) ∙ c .enum-told3 .given .1)
 
--- src/lib.rt:495:1
 returns-4 : tie.Need-returns-4
 returns-4 c = rw (sym (c .before .before .kind-of .ensures) ∙ c .enum-told4 .given .1)
 
--- src/lib.rt:495:1
 returns-5 : tie.Need-returns-5
 returns-5 c = rw (sym (c .before .before .kind-of .ensures) ∙ c .enum-told5 .given .1)
 

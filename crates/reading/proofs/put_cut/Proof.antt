@@ -1,3 +1,4 @@
+-- `reading::put_cut` meets its contract. Assumes nothing.
 use mathlib.Core.Path.{_≡_, refl, sym, ap, _∙_}
 use lib.ListN.{length}
 use Rattle.text.proofs.Writes.{fitted-none, fitted-room, filled-none, filled-sets}
@@ -9,19 +10,15 @@ use Rattle.reading.proofs.put_cut.Reads as reads
 use Rattle.reading.proofs.put_cut.Lts as lts
 use Rattle.text.proofs.put.Reads as put-reads
 
--- src/lib.rt:733:9
 returns : tie.Need-returns
 returns c = let o = c .before .before .args .out .now in (sym (fitted-none (length o) cutRecord (c .if1 .taken)), sym (filled-none o cutRecord (c .if1 .taken)))
 
--- src/lib.rt:738:5
 put-requires : tie.Need-put-requires
 put-requires c κs = search needs
 
--- src/lib.rt:729:1
 same-length : tie.Need-same-length
 same-length c = search needs
 
--- src/lib.rt:729:1
 returns-2 : tie.Need-returns-2
 returns-2 c = let o = c .before .before .before .before .before .before .args .out .now in (sym (fitted-room (length o) cutRecord (c .before .before .before .before .if1 .left)), c .before .before .put .ensures ∙ filled-sets o cutRecord (c .before .before .before .before .if1 .left))
 

@@ -1,3 +1,4 @@
+-- `reading::put_mere` meets its contract. Assumes nothing.
 use mathlib.Core.Path.{_≡_, refl, sym, ap, _∙_}
 use borrow.Author.Needs.{needs}
 use Rattle.reading.proofs.put_mere.Statement.{statement}
@@ -7,15 +8,12 @@ use Rattle.reading.proofs.put_mere.Lts as lts
 use Rattle.reading.proofs.put_option.Reads as put-option-reads
 use Rattle.words.proofs.kind_of.Reads as kind-of-reads
 
--- src/lib.rt:412:9
 kind-of-requires : tie.Need-kind-of-requires
 kind-of-requires c κs = search needs
 
--- src/lib.rt:414:34
 enum-told : tie.Need-enum-told
 enum-told c = search needs
 
--- src/lib.rt:414:23
 put-option-requires : tie.Need-put-option-requires
 put-option-requires c κs = search needs
 
@@ -31,27 +29,21 @@ enum-told-4 c = search needs
 enum-told-5 : tie.Need-enum-told-5
 enum-told-5 c = search needs
 
--- src/lib.rt:408:1
 same-length : tie.Need-same-length
 same-length c = search needs
 
--- src/lib.rt:408:1
 returns : tie.Need-returns
 returns c = rw (sym (c .before .before .before .before .before .before .kind-of .ensures) ∙ c .before .before .before .before .enum-told .given .1) (c .before .before .put-option .ensures)
 
--- src/lib.rt:408:1
 returns-2 : tie.Need-returns-2
 returns-2 c = rw (sym (c .before .before .kind-of .ensures) ∙ c .enum-told2 .given .1)
 
--- src/lib.rt:408:1
 returns-3 : tie.Need-returns-3
 returns-3 c = rw (sym (c .before .before .kind-of .ensures) ∙ c .enum-told3 .given .1)
 
--- src/lib.rt:408:1
 returns-4 : tie.Need-returns-4
 returns-4 c = rw (sym (c .before .before .kind-of .ensures) ∙ c .enum-told4 .given .1)
 
--- src/lib.rt:408:1
 returns-5 : tie.Need-returns-5
 returns-5 c = rw (sym (c .before .before .kind-of .ensures) ∙ c .enum-told5 .given .1)
 

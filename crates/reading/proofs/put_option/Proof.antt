@@ -1,3 +1,4 @@
+-- `reading::put_option` meets its contract. Assumes nothing.
 use borrow.Author.Needs.{needs}
 use Rattle.reading.proofs.put_option.Statement.{statement}
 use Rattle.reading.proofs.put_option.Tie as tie
@@ -7,35 +8,27 @@ use Rattle.reading.proofs.high.Reads as high-reads
 use Rattle.reading.proofs.low.Reads as low-reads
 use Rattle.text.proofs.copy.Reads as copy-reads
 
--- src/lib.rt:403:25
 high-requires : tie.Need-high-requires
 high-requires c κs = search needs
 
--- src/lib.rt:403:34
 low-requires : tie.Need-low-requires
 low-requires c κs = search needs
 
--- src/lib.rt:403:42
 high-requires-2 : tie.Need-high-requires-2
 high-requires-2 c κs = search needs
 
--- src/lib.rt:403:51
 low-requires-2 : tie.Need-low-requires-2
 low-requires-2 c κs = search needs
 
--- src/lib.rt:404:25
 slice-aggregate-copy : tie.Need-slice-aggregate-copy
 slice-aggregate-copy c = search needs
 
--- src/lib.rt:404:5
 copy-requires : tie.Need-copy-requires
 copy-requires c κs = search needs
 
--- src/lib.rt:399:1
 same-length : tie.Need-same-length
 same-length c = search needs
 
--- src/lib.rt:399:1
 returns : tie.Need-returns
 returns c =
     let l = c .before .before .before .before .before in

@@ -1,3 +1,4 @@
+-- `reading::put_parts` meets its contract. Assumes nothing.
 use borrow.Author.Needs.{needs}
 use Rattle.reading.proofs.put_parts.Statement.{statement}
 use Rattle.reading.proofs.put_parts.Tie as tie
@@ -7,51 +8,39 @@ use Rattle.reading.proofs.high.Reads as high-reads
 use Rattle.reading.proofs.low.Reads as low-reads
 use Rattle.text.proofs.copy.Reads as copy-reads
 
--- src/lib.rt:437:9
 high-requires : tie.Need-high-requires
 high-requires c κs = search needs
 
--- src/lib.rt:438:9
 low-requires : tie.Need-low-requires
 low-requires c κs = search needs
 
--- src/lib.rt:439:9
 high-requires-2 : tie.Need-high-requires-2
 high-requires-2 c κs = search needs
 
--- src/lib.rt:440:9
 low-requires-2 : tie.Need-low-requires-2
 low-requires-2 c κs = search needs
 
--- src/lib.rt:442:9
 high-requires-3 : tie.Need-high-requires-3
 high-requires-3 c κs = search needs
 
--- src/lib.rt:443:9
 low-requires-3 : tie.Need-low-requires-3
 low-requires-3 c κs = search needs
 
--- src/lib.rt:444:9
 high-requires-4 : tie.Need-high-requires-4
 high-requires-4 c κs = search needs
 
--- src/lib.rt:445:9
 low-requires-4 : tie.Need-low-requires-4
 low-requires-4 c κs = search needs
 
--- src/lib.rt:447:25
 slice-aggregate-copy : tie.Need-slice-aggregate-copy
 slice-aggregate-copy c = search needs
 
--- src/lib.rt:447:5
 copy-requires : tie.Need-copy-requires
 copy-requires c κs = search needs
 
--- src/lib.rt:431:1
 same-length : tie.Need-same-length
 same-length c = search needs
 
--- src/lib.rt:431:1
 returns : tie.Need-returns
 returns c =
     let l = c .before .before .before .before .before in

@@ -1,3 +1,4 @@
+-- `reading::put_property` meets its contract. Assumes nothing.
 use borrow.Author.Tests.{eq-eqb, ne-eqb}
 use borrow.Author.Needs.{needs}
 use Rattle.reading.proofs.put_property.Statement.{statement}
@@ -7,67 +8,51 @@ use Rattle.reading.proofs.put_property.Lts as lts
 use Rattle.reading.proofs.less.Reads as less-reads
 use Rattle.reading.proofs.put_parts.Reads as put-parts-reads
 
--- src/lib.rt:465:13
 add-e : tie.Need-add-e
 add-e c = search needs
 
--- src/lib.rt:466:9
 less-requires : tie.Need-less-requires
 less-requires c κs = search needs
 
--- src/lib.rt:468:37
 add-put-parts : tie.Need-add-put-parts
 add-put-parts c = search needs
 
--- src/lib.rt:468:9
 put-parts-requires : tie.Need-put-parts-requires
 put-parts-requires c κs = search needs
 
--- src/lib.rt:469:9
 same-length : tie.Need-same-length
 same-length c = search needs
 
--- src/lib.rt:469:9
 returns : tie.Need-returns
 returns c = rw (eq-eqb _ _ (c .before .before .before .before .if1 .taken)) (rw (c .before .before .before .before .before .less .ensures) at (c .before .before .put-parts .ensures))
 
--- src/lib.rt:472:37
 add-put-parts-2 : tie.Need-add-put-parts-2
 add-put-parts-2 c = search needs
 
--- src/lib.rt:472:44
 less-requires-2 : tie.Need-less-requires-2
 less-requires-2 c κs = search needs
 
--- src/lib.rt:472:9
 put-parts-requires-2 : tie.Need-put-parts-requires-2
 put-parts-requires-2 c κs = search needs
 
--- src/lib.rt:473:9
 same-length-2 : tie.Need-same-length-2
 same-length-2 c = search needs
 
--- src/lib.rt:473:9
 returns-2 : tie.Need-returns-2
 returns-2 c = rw (ne-eqb _ _ (c .before .before .before .before .before .before .if1 .left), eq-eqb _ _ (c .before .before .before .before .before .if2 .taken)) (rw (c .before .before .before .less2 .ensures, c .before .before .before .before .before .before .before .less .ensures) at (c .before .before .put-parts2 .ensures))
 
--- src/lib.rt:475:33
 add-put-parts-3 : tie.Need-add-put-parts-3
 add-put-parts-3 c = search needs
 
--- src/lib.rt:475:40
 less-requires-3 : tie.Need-less-requires-3
 less-requires-3 c κs = search needs
 
--- src/lib.rt:475:5
 put-parts-requires-3 : tie.Need-put-parts-requires-3
 put-parts-requires-3 c κs = search needs
 
--- src/lib.rt:461:1
 same-length-3 : tie.Need-same-length-3
 same-length-3 c = search needs
 
--- src/lib.rt:461:1
 returns-3 : tie.Need-returns-3
 returns-3 c = rw (ne-eqb _ _ (c .before .before .before .before .before .before .if1 .left), ne-eqb _ _ (c .before .before .before .before .before .if2 .left)) (rw (c .before .before .before .less3 .ensures, c .before .before .before .before .before .before .before .less .ensures) at (c .before .before .put-parts3 .ensures))
 

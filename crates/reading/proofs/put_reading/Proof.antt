@@ -1,3 +1,4 @@
+-- `reading::put_reading` meets its contract. Assumes nothing.
 use mathlib.Core.Path.{_≡_, refl, sym, ap, _∙_}
 use lib.Seq.{sets}
 use Rattle.reading.specs.Reading.{Reading, readingOf}
@@ -12,19 +13,15 @@ use Rattle.reading.proofs.is_blank.Reads as is-blank-reads
 use Rattle.reading.proofs.put_records.Reads as put-records-reads
 use Rattle.text.proofs.put.Reads as put-reads
 
--- src/lib.rt:618:8
 is-blank-requires : tie.Need-is-blank-requires
 is-blank-requires c κs = search needs
 
--- src/lib.rt:619:9
 put-requires : tie.Need-put-requires
 put-requires c κs = search needs
 
--- src/lib.rt:620:9
 same-length : tie.Need-same-length
 same-length c = search needs
 
--- src/lib.rt:620:9
 returns : tie.Need-returns
 returns c =
     let s = c .before .before .before .before .before .before .before .before in
@@ -32,7 +29,6 @@ returns c =
     c .before .before .put .ensures
     ∙ sym (ap (λ (r : Reading). sets (s .args .out .now) 0 (bytesIn r)) (fine-left line (fine-lexical line (s .pre)) ∙ blank-left line (sym (c .before .before .before .before .before .is-blank .ensures) ∙ c .before .before .before .before .if1 .taken)))
 
--- src/lib.rt:622:5
 put-records-requires : tie.Need-put-records-requires
 put-records-requires c κs =
     let s = c .before .before .before .before .before in
@@ -40,11 +36,9 @@ put-records-requires c κs =
     let f = fine-lexical line (s .pre) in
     (fine-short line f, ap verdictIn (sym (fine-left line f)) ∙ s .pre)
 
--- src/lib.rt:614:1
 same-length-2 : tie.Need-same-length-2
 same-length-2 c = search needs
 
--- src/lib.rt:614:1
 returns-2 : tie.Need-returns-2
 returns-2 c =
     let s = c .before .before .before .before .before .before .before .before in

@@ -1,3 +1,4 @@
+-- `reading::put_record` meets its contract. Assumes nothing.
 use borrow.Author.Needs.{needs}
 use Rattle.reading.proofs.put_record.Statement.{statement}
 use Rattle.reading.proofs.put_record.Tie as tie
@@ -9,91 +10,69 @@ use Rattle.reading.proofs.put_property.Reads as put-property-reads
 use Rattle.reading.proofs.put_target.Reads as put-target-reads
 use Rattle.text.proofs.copy.Reads as copy-reads
 
--- src/lib.rt:484:21
 enum-known-item : tie.Need-enum-known-item
 enum-known-item c = search needs
 
--- src/lib.rt:486:33
 slice-aggregate-copy : tie.Need-slice-aggregate-copy
 slice-aggregate-copy c = search needs
 
--- src/lib.rt:486:13
 copy-requires : tie.Need-copy-requires
 copy-requires c κs = search needs
 
--- src/lib.rt:488:23
 enum-known-item-2 : tie.Need-enum-known-item-2
 enum-known-item-2 c = search needs
 
--- src/lib.rt:488:60
 add-put-mere : tie.Need-add-put-mere
 add-put-mere c = search needs
 
--- src/lib.rt:488:34
 put-mere-requires : tie.Need-put-mere-requires
 put-mere-requires c κs = search needs
 
--- src/lib.rt:489:25
 enum-known-item-3 : tie.Need-enum-known-item-3
 enum-known-item-3 c = search needs
 
--- src/lib.rt:489:36
 put-option-requires : tie.Need-put-option-requires
 put-option-requires c κs = search needs
 
--- src/lib.rt:490:37
 enum-told : tie.Need-enum-told
 enum-told c = search needs
 
--- src/lib.rt:490:26
 put-target-requires : tie.Need-put-target-requires
 put-target-requires c κs = search needs
 
--- src/lib.rt:491:27
 enum-known-item-4 : tie.Need-enum-known-item-4
 enum-known-item-4 c = search needs
 
--- src/lib.rt:491:47
 put-property-requires : tie.Need-put-property-requires
 put-property-requires c κs = let p = c .before .before .before .before .before .pre in (p .0, p .1, rw (c .before .before .item4 .given .1) at (p .2))
 
--- src/lib.rt:479:1
 same-length : tie.Need-same-length
 same-length c = search needs
 
--- src/lib.rt:479:1
 returns : tie.Need-returns
 returns c = rw (c .before .before .before .before .before .before .item .given .1) (c .before .before .copy .ensures)
 
--- src/lib.rt:479:1
 same-length-2 : tie.Need-same-length-2
 same-length-2 c = search needs
 
--- src/lib.rt:479:1
 returns-2 : tie.Need-returns-2
 returns-2 c = rw (c .before .before .before .before .before .item2 .given .1) (c .before .before .put-mere .ensures)
 
--- src/lib.rt:479:1
 same-length-3 : tie.Need-same-length-3
 same-length-3 c = search needs
 
--- src/lib.rt:479:1
 returns-3 : tie.Need-returns-3
 returns-3 c = rw (c .before .before .before .before .before .item3 .given .1) (c .before .before .put-option .ensures)
 
--- src/lib.rt:479:1
 same-length-4 : tie.Need-same-length-4
 same-length-4 c = search needs
 
--- src/lib.rt:479:1
 returns-4 : tie.Need-returns-4
 returns-4 c = rw (c .before .before .before .before .enum-told .given .1) (c .before .before .put-target .ensures)
 
--- src/lib.rt:479:1
 same-length-5 : tie.Need-same-length-5
 same-length-5 c = search needs
 
--- src/lib.rt:479:1
 returns-5 : tie.Need-returns-5
 returns-5 c = rw (c .before .before .before .before .before .item4 .given .1) (c .before .before .put-property .ensures)
 

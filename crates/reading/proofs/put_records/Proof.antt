@@ -1,3 +1,4 @@
+-- `reading::put_records` meets its contract. The loop's invariant: to write the records of what is left, from w, gives what writing all would. Assumes nothing.
 use borrow.Author.Needs.{needs}
 use Prim.Native.Nat.{ℕ, _+_, _-_, _*_, _≤_}
 use mathlib.Core.Path.{_≡_, refl, sym, ap, _∙_}
@@ -31,27 +32,21 @@ Inv-loop line out₀ c₀ w₀ out c w =
 abbrev μ-loop : tie.MeasureT-loop
 μ-loop line out₀ c₀ w₀ out c w = length line - c .at
 
--- src/lib.rt:593:9
 begin-requires : tie.Need-begin-requires Inv-loop μ-loop
 begin-requires c κs = search needs
 
--- src/lib.rt:595:5
 loop-holds : tie.Need-loop-holds Inv-loop μ-loop
 loop-holds c = rw (c .begin .ensures) (refl, c .before .before .before .pre .1, refl, omega arith, omega arith)
 
--- src/lib.rt:596:13
 next-requires : tie.Need-next-requires Inv-loop μ-loop
 next-requires c κs = search needs
 
--- src/lib.rt:599:27
 enum-told : tie.Need-enum-told Inv-loop μ-loop
 enum-told c = search needs
 
--- src/lib.rt:599:27
 same-length : tie.Need-same-length Inv-loop μ-loop
 same-length c = c .before .before .before .loop .inv .2
 
--- src/lib.rt:599:27
 returns : tie.Need-returns Inv-loop μ-loop
 unfolding recordsOf
 returns c =
@@ -60,15 +55,12 @@ returns c =
     let line = l .before .before .before .before .args .line .now in
     sym (ap (λ (r : Reading). sets (l .loop .out) (l .loop .w) (recordsIn r)) (step-end line (l .loop .c) (nx .next .result) (nx .next .ensures) (c .enum-told .given .1))) ∙ l .loop .inv .0
 
--- src/lib.rt:603:18
 enum-told-2 : tie.Need-enum-told-2 Inv-loop μ-loop
 enum-told-2 c = search needs
 
--- src/lib.rt:603:18
 same-length-2 : tie.Need-same-length-2 Inv-loop μ-loop
 same-length-2 c = c .before .before .before .loop .inv .2
 
--- src/lib.rt:603:18
 returns-2 : tie.Need-returns-2 Inv-loop μ-loop
 returns-2 c =
     let nx = c .before .before in
@@ -76,11 +68,9 @@ returns-2 c =
     let line = l .before .before .before .before .args .line .now in
     refused-fine (left line (l .loop .c)) _ _ (step-refused line (l .loop .c) (nx .next .result) (nx .next .ensures) _ _ (c .enum-told2 .given .1)) (l .loop .inv .1)
 
--- src/lib.rt:604:27
 enum-known-g : tie.Need-enum-known-g Inv-loop μ-loop
 enum-known-g c = search needs
 
--- src/lib.rt:605:17
 put-record-requires : tie.Need-put-record-requires Inv-loop μ-loop
 put-record-requires c κs =
     let nx = c .before .before .before .before in
@@ -90,11 +80,9 @@ put-record-requires c κs =
     let h = c .before .before .before .before .before .before .before .before .before .pre .0 in
     (omega arith, omega arith, w .name)
 
--- src/lib.rt:606:22
 record-size-requires : tie.Need-record-size-requires Inv-loop μ-loop
 record-size-requires c κs = search needs
 
--- src/lib.rt:606:17
 add-w : tie.Need-add-w Inv-loop μ-loop
 add-w c =
     let nx = c .before .before .before .before .before .before .before .before in
@@ -103,7 +91,6 @@ add-w c =
     let w = step-part line (l .loop .c) (nx .next .result) (nx .next .ensures) _ _ _ (c .before .before .before .before .before .before .g .given .1) in
     omega (arith, size-most (c .before .before .before .before .before .before .g .given .0 .0), c .record-size .ensures, c .before .before .before .before .before .before .before .before .before .before .before .before .before .pre .0)
 
--- src/lib.rt:595:5
 loop-less : tie.Need-loop-less Inv-loop μ-loop
 loop-less c =
     let nx = c .before .before .before .before .before .before .before .before .before in
@@ -112,7 +99,6 @@ loop-less c =
     let w = step-part line (l .loop .c) (nx .next .result) (nx .next .ensures) _ _ _ (c .before .before .before .before .before .before .before .g .given .1) in
     omega arith
 
--- src/lib.rt:595:5
 loop-again : tie.Need-loop-again Inv-loop μ-loop
 loop-again c =
     let nx = c .before .before .before .before .before .before .before .before .before in

@@ -1,3 +1,4 @@
+-- `reading::put_refusal` meets its contract. Assumes nothing.
 use mathlib.Core.Path.{_≡_, refl, sym, ap, _∙_}
 use lib.ListN.{length}
 use Rattle.text.proofs.Writes.{fitted-none, fitted-room, filled-none, filled-sets}
@@ -11,31 +12,24 @@ use Rattle.reading.proofs.high.Reads as high-reads
 use Rattle.reading.proofs.low.Reads as low-reads
 use Rattle.text.proofs.copy.Reads as copy-reads
 
--- src/lib.rt:717:9
 returns : tie.Need-returns
 returns c = let a = c .before .before .args in (sym (fitted-none (length (a .out .now)) (refusalRecord (a .number) (a .place)) (c .if1 .taken)), sym (filled-none (a .out .now) (refusalRecord (a .number) (a .place)) (c .if1 .taken)))
 
--- src/lib.rt:723:25
 high-requires : tie.Need-high-requires
 high-requires c κs = search needs
 
--- src/lib.rt:723:34
 low-requires : tie.Need-low-requires
 low-requires c κs = search needs
 
--- src/lib.rt:724:24
 slice-aggregate-copy : tie.Need-slice-aggregate-copy
 slice-aggregate-copy c = search needs
 
--- src/lib.rt:724:5
 copy-requires : tie.Need-copy-requires
 copy-requires c κs = search needs
 
--- src/lib.rt:713:1
 same-length : tie.Need-same-length
 same-length c = search needs
 
--- src/lib.rt:713:1
 returns-2 : tie.Need-returns-2
 returns-2 c =
     let a = c .before .before .before .before .before .before .before .before .before .args in

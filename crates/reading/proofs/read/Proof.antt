@@ -1,3 +1,4 @@
+-- `reading::read` meets its contract. Assumes nothing.
 use mathlib.Core.Path.{_≡_, refl, sym, ap, _∙_}
 use lib.ListN.{length}
 use Rattle.reading.specs.Reading.{Reading, readingOf}
@@ -11,42 +12,34 @@ use Rattle.reading.proofs.read.Lts as lts
 use Rattle.reading.proofs.needed.Reads as needed-reads
 use Rattle.reading.proofs.put_reading.Reads as put-reading-reads
 
--- src/lib.rt:629:9
 needed-requires : tie.Need-needed-requires
 needed-requires c κs = search needs
 
--- src/lib.rt:631:27
 enum-known-a : tie.Need-enum-known-a
 enum-known-a c = search needs
 
--- src/lib.rt:632:23
 enum-known-a-2 : tie.Need-enum-known-a-2
 enum-known-a-2 c = search needs
 
--- src/lib.rt:634:17
 returns : tie.Need-returns
 returns c =
     let a = c .before .before .before .before .before .before .before .args in
     read-none (readingOf (a .line .now)) _ (a .out .now) (sym (c .before .before .a2 .given .1) ∙ c .before .before .before .before .needed .ensures) (c .if1 .taken)
 
--- src/lib.rt:639:13
 put-reading-requires : tie.Need-put-reading-requires
 put-reading-requires c κs =
     let a = c .before .before .before .before .before .before .before .before .args in
     needed-fine (readingOf (a .line .now)) _ (sym (c .before .before .before .a2 .given .1) ∙ c .before .before .before .before .before .needed .ensures)
 
--- src/lib.rt:626:1
 returns-2 : tie.Need-returns-2
 returns-2 c =
     let a = c .before .before .before .before .before .before .args in
     let z = needed-refused (readingOf (a .line .now)) _ _ (sym (c .before .a .given .1) ∙ c .before .before .before .needed .ensures) in
     (sym (ap (answerIn (length (a .out .now))) z), sym (ap (roomIn (a .out .now)) z))
 
--- src/lib.rt:626:1
 same-length : tie.Need-same-length
 same-length c = search needs
 
--- src/lib.rt:626:1
 returns-3 : tie.Need-returns-3
 returns-3 c =
     let a = c .before .before .before .before .before .before .before .before .before .before .before .args in

@@ -1,3 +1,4 @@
+-- `reading::record_size` meets its contract. Assumes nothing.
 use borrow.Author.Needs.{needs}
 use Rattle.reading.proofs.record_size.Statement.{statement}
 use Rattle.reading.proofs.record_size.Tie as tie
@@ -5,47 +6,36 @@ use Rattle.reading.proofs.record_size.Reads as reads
 use Rattle.reading.proofs.record_size.Lts as lts
 use Rattle.reading.proofs.option_size.Reads as option-size-reads
 
--- src/lib.rt:513:27
 enum-told : tie.Need-enum-told
 enum-told c = search needs
 
--- src/lib.rt:514:23
 enum-known-item : tie.Need-enum-known-item
 enum-known-item c = search needs
 
--- src/lib.rt:514:34
 option-size-requires : tie.Need-option-size-requires
 option-size-requires c κs = search needs
 
--- src/lib.rt:515:31
 enum-told-2 : tie.Need-enum-told-2
 enum-told-2 c = search needs
 
--- src/lib.rt:516:26
 enum-told-3 : tie.Need-enum-told-3
 enum-told-3 c = search needs
 
--- src/lib.rt:520:14
 enum-told-4 : tie.Need-enum-told-4
 enum-told-4 c = search needs
 
--- src/lib.rt:509:1
 returns : tie.Need-returns
 returns c = search needs
 
--- src/lib.rt:509:1
 returns-2 : tie.Need-returns-2
 returns-2 c = rw (c .before .before .item .given .1) (c .option-size .ensures)
 
--- src/lib.rt:509:1
 returns-3 : tie.Need-returns-3
 returns-3 c = search needs
 
--- src/lib.rt:509:1
 returns-4 : tie.Need-returns-4
 returns-4 c = search needs
 
--- src/lib.rt:509:1
 returns-5 : tie.Need-returns-5
 returns-5 c = search needs
 

@@ -1,3 +1,4 @@
+-- `reading::target_span` meets its contract. Assumes nothing.
 use mathlib.Core.Path.{_≡_, refl, sym, ap, _∙_}
 use Rattle.reading.specs.Reading.{Reading, readingOf}
 use Rattle.reading.specs.Records.{targetIn}
@@ -11,32 +12,26 @@ use Rattle.reading.proofs.target_span.Lts as lts
 use Rattle.reading.proofs.first_target.Reads as first-target-reads
 use Rattle.reading.proofs.verdict.Reads as verdict-reads
 
--- src/lib.rt:689:9
 verdict-requires : tie.Need-verdict-requires
 verdict-requires c κs = search needs
 
--- src/lib.rt:694:14
 enum-told : tie.Need-enum-told
 enum-told c = search needs
 
--- src/lib.rt:695:26
 enum-told-2 : tie.Need-enum-told-2
 enum-told-2 c = search needs
 
--- src/lib.rt:695:26
 first-target-requires : tie.Need-first-target-requires
 first-target-requires c κs =
     let line = c .before .before .before .before .args .line .now in
     let v = sym (c .before .before .verdict .ensures) ∙ c .enum-told2 .given .1 in
     ap verdictIn (sym (fine-left line (fine-lexical line v))) ∙ v
 
--- src/lib.rt:686:1
 returns : tie.Need-returns
 returns c =
     let line = c .before .before .before .before .args .line .now in
     sym (ap targetIn (verdict-refused (readingOf line) _ _ (sym (c .enum-told .given .1) ∙ c .before .before .verdict .ensures)))
 
--- src/lib.rt:686:1
 returns-2 : tie.Need-returns-2
 returns-2 c =
     let line = c .before .before .before .before .before .args .line .now in

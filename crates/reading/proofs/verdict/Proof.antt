@@ -1,3 +1,4 @@
+-- `reading::verdict` meets its contract. Assumes nothing.
 use mathlib.Core.Path.{_≡_, refl, sym, ap, _∙_}
 use Rattle.reading.specs.Reading.{Reading, readingOf}
 use Rattle.reading.specs.Shown.{verdictIn}
@@ -9,25 +10,20 @@ use Rattle.reading.proofs.verdict.Reads as reads
 use Rattle.reading.proofs.verdict.Lts as lts
 use Rattle.reading.proofs.needed.Reads as needed-reads
 
--- src/lib.rt:581:9
 needed-requires : tie.Need-needed-requires
 needed-requires c κs = search needs
 
--- src/lib.rt:583:29
 enum-told : tie.Need-enum-told
 enum-told c = search needs
 
--- src/lib.rt:584:27
 enum-known-a : tie.Need-enum-known-a
 enum-known-a c = search needs
 
--- src/lib.rt:578:1
 returns : tie.Need-returns
 returns c =
     let a = c .before .before .before .before .args in
     sym (needed-fine (readingOf (a .line .now)) _ (sym (c .enum-told .given .1) ∙ c .before .before .needed .ensures))
 
--- src/lib.rt:578:1
 returns-2 : tie.Need-returns-2
 returns-2 c =
     let a = c .before .before .before .before .before .args in

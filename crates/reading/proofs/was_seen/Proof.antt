@@ -1,3 +1,4 @@
+-- `reading::was_seen` meets its contract. Assumes nothing.
 use native.Mathlib.Omega.{arith}
 use mathlib.Core.Path.{_≡_, refl, sym, ap, _∙_}
 use lib.ListN.{List·getD-eq-default}
@@ -7,15 +8,12 @@ use Rattle.reading.proofs.was_seen.Tie as tie
 use Rattle.reading.proofs.was_seen.Reads as reads
 use Rattle.reading.proofs.was_seen.Lts as lts
 
--- src/lib.rt:103:16
 array-read-result : tie.Need-array-read-result
 array-read-result c = search needs
 
--- src/lib.rt:103:9
 returns : tie.Need-returns
 returns c = search needs
 
--- src/lib.rt:98:1
 returns-2 : tie.Need-returns-2
 returns-2 c = sym (List·getD-eq-default (c .before .args .t1) _ (omega arith))
 

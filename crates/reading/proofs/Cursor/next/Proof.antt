@@ -1,3 +1,4 @@
+-- `reading::Cursor::next` meets its contract. Assumes nothing.
 use Rattle.reading.specs.Reading.{decide}
 use mathlib.Core.Path.{_≡_, refl, sym, ap, _∙_}
 use native.Mathlib.Omega.{arith}
@@ -17,7 +18,6 @@ use Rattle.reading.proofs.decide_in.Reads as decide-in-reads
 use Rattle.reading.proofs.end_step.Reads as end-step-reads
 use Rattle.terms.proofs.term_at.Reads as term-at-reads
 
--- src/lib.rt:354:42
 got : (c : tie.After-start)
     → Term (c .start .given .0 .0) (c .start .given .0 .1 .0) ≡ termAt (c .before .before .before .before .before .args .line .now) (c .before .before .before .before .before .args .self .at)
 got c = sym (c .start .given .1) ∙ c .before .before .term-at .ensures
@@ -29,67 +29,53 @@ within c = term-within _ _ _ _ (got c)
 term-at-requires : tie.Need-term-at-requires
 term-at-requires c κs = search needs
 
--- src/lib.rt:354:27
 enum-known-start : tie.Need-enum-known-start
 enum-known-start c = search needs
 
--- src/lib.rt:355:42
 enum-told : tie.Need-enum-told
 enum-told c = search needs
 
--- src/lib.rt:355:13
 end-step-requires : tie.Need-end-step-requires
 end-step-requires c κs = search needs
 
--- src/lib.rt:355:13
 returns : tie.Need-returns
 returns c =
     let t = c .before .before .before in
     let a = t .before .before .before .args in
     c .end-step .ensures ∙ step-none (a .line .now) (a .self) _ refl (sym (c .before .enum-told .given .1) ∙ t .term-at .ensures)
 
--- src/lib.rt:360:27
 sub-decide-in : tie.Need-sub-decide-in
 sub-decide-in c = let w = within (c .before .before) in omega arith
 
--- src/lib.rt:360:27
 part-decide-in-start : tie.Need-part-decide-in-start
 part-decide-in-start c = let w = within (c .before .before) in omega arith
 
--- src/lib.rt:360:27
 part-decide-in-end : tie.Need-part-decide-in-end
 part-decide-in-end c = search needs
 
--- src/lib.rt:360:13
 decide-in-requires : tie.Need-decide-in-requires
 decide-in-requires c κs = let w = within (c .before .before .before) in let a = c .before .before .before .before .before .before .before .before .args in rw (length-from (a .line .now) _) (omega arith)
 
--- src/lib.rt:362:28
 enum-known-d : tie.Need-enum-known-d
 enum-known-d c = search needs
 
--- src/lib.rt:364:25
 add-t22 : tie.Need-add-t22
 add-t22 c = let w = within (c .before .before .before .before .before .before .before) in omega arith
 
--- src/lib.rt:365:28
 after-requires : tie.Need-after-requires
 unfolding decide
 after-requires c κs =
     let a = c .before .before .before .before .before .before .before .before .before .before .before .before .args in
     shown-room (a .self .state) _ _ (sym (c .before .d .given .1) ∙ c .before .before .before .decide-in .ensures)
 
--- src/lib.rt:372:30
 enum-known-d-2 : tie.Need-enum-known-d-2
 enum-known-d-2 c = search needs
 
--- src/lib.rt:348:5
 returns-2 : tie.Need-returns-2
 returns-2 c =
     let a = c .before .before .before .before .before .before .before .before .before .before .before .before .before .args in
     rw (c .after .ensures) (sym (ap (stepOn _ _ (a .self)) (c .before .before .d .given .1)) ∙ step-is (a .line .now) (a .self) _ _ _ (got (c .before .before .before .before .before .before .before .before)) (c .before .before .before .before .decide-in .ensures))
 
--- src/lib.rt:348:5
 returns-3 : tie.Need-returns-3
 returns-3 c =
     let a = c .before .before .before .before .before .before .before .before .before .before .before .before .args in
