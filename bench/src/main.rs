@@ -1,0 +1,53 @@
+//! The proved library beside the independent reader: the same work on the same input in one run, as a table with ratios.
+//!
+//! clp_bench CLPLIST CLPLIST_RS: the two listers' programs, which are timed end to end.
+
+mod input;
+mod timing;
+mod work;
+
+use clp_gen::Rng;
+use std::process::{Command, Stdio};
+use timing::{seconds_of, Row};
+
+const MEGA: usize = 1 << 20;
+
+fn main() {
+    let mut rng = Rng::new(1);
+    println!("best of several runs, proved beside Rust; the buffers are warm and not cleared between runs");
+    Row::heading();
+    for size in [1 << 10, 1 << 16, MEGA, 16 * MEGA, 100 * MEGA] {
+        let capture = input::console(&mut rng, size);
+        Row::new("join", size, "B", work::joins(&capture)).show();
+    }
+    for size in [1 << 10, 1 << 16, MEGA, 16 * MEGA] {
+        let lines = input::commands(&mut rng, size);
+        Row::new("read commands", size, "B", work::reads(&lines)).show();
+        let noise = input::noise(&mut rng, size);
+        Row::new("read console text", size, "B", work::reads(&noise)).show();
+        Row::new("canonical", size, "B", work::writes(&lines)).show();
+    }
+    for nodes in [8, 64, 512] {
+        let tree = clp_gen::tree::intact_tree(&mut rng, nodes).bytes;
+        Row::new("check tree", nodes, "nodes", work::checks(&tree)).show();
+    }
+    let (tree, path) = input::deep_tree();
+    Row::new("resolve 16 segments", tree.len() / 22, "nodes", work::resolves(&tree, &path)).show();
+    let programs: Vec<String> = std::env::args().skip(1).collect();
+    if let [ours, theirs] = &programs[..] {
+        for size in [1 << 16, MEGA, 16 * MEGA, 100 * MEGA] {
+            let capture = input::mixed(&mut rng, size);
+            let file = std::env::temp_dir().join("clp_bench_capture");
+            std::fs::write(&file, &capture).expect("room for the capture");
+            let run = |program: &str| {
+                seconds_of(3, || {
+                    let stdin = std::fs::File::open(&file).expect("the capture");
+                    let status = Command::new(program).stdin(stdin).stdout(Stdio::null()).status();
+                    assert!(status.expect("the program runs").success());
+                })
+            };
+            Row::new("clplist", size, "B", (run(ours), run(theirs))).show();
+            std::fs::remove_file(&file).expect("the capture is there");
+        }
+    }
+}

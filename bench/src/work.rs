@@ -1,0 +1,76 @@
+//! The two libraries at the same work: seconds of the proved one, seconds of the Rust one.
+
+use crate::timing::seconds_of;
+use clp_face as face;
+use clp_reader::{canonical, joiner, reading, tree};
+use std::hint::black_box;
+
+const RUNS: usize = 5;
+const PART: usize = 1 << 16;
+
+pub fn joins(capture: &[u8]) -> (f64, f64) {
+    let mut buffer = [0; 1024];
+    let ours = seconds_of(RUNS, || {
+        let mut state = 0;
+        for part in capture.chunks(PART) {
+            let mut at = 0;
+            while at < part.len() {
+                let joined = face::join(state, &mut buffer, &part[at..]);
+                state = joined.state;
+                at += joined.used as usize;
+            }
+        }
+        keep(face::end(state));
+    });
+    let theirs = seconds_of(RUNS, || {
+        let mut state = joiner::State::default();
+        for part in capture.chunks(PART) {
+            let mut at = 0;
+            while at < part.len() {
+                let step = joiner::join(state, &mut buffer, &part[at..]);
+                state = step.state;
+                at += step.used;
+            }
+        }
+        keep(joiner::end(state));
+    });
+    (ours, theirs)
+}
+
+/// An answer is not computed away.
+fn keep<T>(answer: T) {
+    black_box(answer);
+}
+
+/// Each line by both.
+fn each(lines: &[Vec<u8>], ours: impl Fn(&[u8], &mut [u8]), theirs: impl Fn(&[u8], &mut [u8])) -> (f64, f64) {
+    let mut room = [0; 8192];
+    let first = seconds_of(RUNS, || lines.iter().for_each(|line| ours(black_box(line), &mut room)));
+    let second = seconds_of(RUNS, || lines.iter().for_each(|line| theirs(black_box(line), &mut room)));
+    (first, second)
+}
+
+pub fn reads(lines: &[Vec<u8>]) -> (f64, f64) {
+    each(lines, |line, room| keep(face::read(line, room)), |line, room| keep(reading::read(line, room)))
+}
+
+pub fn writes(lines: &[Vec<u8>]) -> (f64, f64) {
+    each(
+        lines,
+        |line, room| keep(face::canonical(line, room)),
+        |line, room| keep(canonical::write_canonical(line, room)),
+    )
+}
+
+pub fn checks(bytes: &[u8]) -> (f64, f64) {
+    let ours = seconds_of(RUNS, || keep(face::check_tree(black_box(bytes))));
+    let theirs = seconds_of(RUNS, || keep(tree::check_tree(black_box(bytes))));
+    (ours, theirs)
+}
+
+pub fn resolves(bytes: &[u8], path: &[u8]) -> (f64, f64) {
+    let mut list = [0; 512];
+    let ours = seconds_of(RUNS, || keep(face::resolve(black_box(path), bytes, 0, &mut list)));
+    let theirs = seconds_of(RUNS, || keep(tree::resolve(black_box(path), bytes, 0, &mut list)));
+    (ours, theirs)
+}
