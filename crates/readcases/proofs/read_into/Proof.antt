@@ -1,0 +1,44 @@
+-- `readcases::read_into` is safe: the part is inside the room. Assumes nothing.
+use mathlib.Core.Path.{sym}
+use native.Mathlib.Omega.{arith}
+use lib.Seq.{length-take-le}
+use borrow.Author.Needs.{needs}
+use Rattle.readcases.proofs.read_into.Statement.{statement}
+use Rattle.readcases.proofs.read_into.Tie as tie
+use Rattle.readcases.proofs.read_into.Reads as reads
+use Rattle.readcases.proofs.read_into.Lts as lts
+use Rattle.readcases.proofs.answered.Reads as answered-reads
+use Rattle.reading.proofs.read.Reads as read-reads
+
+slice-relend-prefix-read : tie.Need-slice-relend-prefix-read
+slice-relend-prefix-read c = search needs
+
+slice-aggregate-read : tie.Need-slice-aggregate-read
+slice-aggregate-read c = sym (length-take-le _ _ (omega arith))
+
+read-requires : tie.Need-read-requires
+read-requires c κs = search needs
+
+answered-requires : tie.Need-answered-requires
+answered-requires c κs = search needs
+
+same-length : tie.Need-same-length
+same-length c = search needs
+
+returns : tie.Need-returns
+returns c = search needs
+
+returns-2 : tie.Need-returns-2
+returns-2 c = search needs
+
+pub read-into-spec : {M : Type 1} → statement M
+read-into-spec =
+    tie.close
+    (tie.spec
+    slice-relend-prefix-read
+    slice-aggregate-read
+    read-requires
+    answered-requires
+    same-length
+    returns
+    returns-2)
