@@ -1,0 +1,3 @@
+pub mod StateLaws
+pub mod FaceLaws
+pub mod Only

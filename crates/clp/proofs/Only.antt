@@ -1,0 +1,96 @@
+-- No second result of an exported function fits its contract: answers, and lent memory at exit, are determined by what went in.
+-- Stated on each contract's own reading, so that it cannot drift from the source.
+use mathlib.Core.Path.{_≡_, sym, _∙_}
+use denote.Ref.{now}
+use contract.Lifetimes
+use borrow.Fn.World
+use borrow.Fn.Kinds
+use denote.Triple.Clauses
+use Rattle.clp.proofs.clp_join as clp-join-fn
+use Rattle.clp.proofs.clp_join.Kinds as clp-join-kinds
+use Rattle.clp.proofs.clp_join.Reads as clp-join-reads
+use Rattle.clp.proofs.clp_end as clp-end-fn
+use Rattle.clp.proofs.clp_end.Kinds as clp-end-kinds
+use Rattle.clp.proofs.clp_end.Reads as clp-end-reads
+use Rattle.clp.proofs.clp_next_term as clp-next-term-fn
+use Rattle.clp.proofs.clp_next_term.Kinds as clp-next-term-kinds
+use Rattle.clp.proofs.clp_next_term.Reads as clp-next-term-reads
+use Rattle.clp.proofs.clp_check_tree as clp-check-tree-fn
+use Rattle.clp.proofs.clp_check_tree.Kinds as clp-check-tree-kinds
+use Rattle.clp.proofs.clp_check_tree.Reads as clp-check-tree-reads
+use Rattle.clp.proofs.clp_full_path as clp-full-path-fn
+use Rattle.clp.proofs.clp_full_path.Kinds as clp-full-path-kinds
+use Rattle.clp.proofs.clp_full_path.Reads as clp-full-path-reads
+use Rattle.clp.proofs.clp_resolve as clp-resolve-fn
+use Rattle.clp.proofs.clp_resolve.Kinds as clp-resolve-kinds
+use Rattle.clp.proofs.clp_resolve.Reads as clp-resolve-reads
+use Rattle.clp.proofs.clp_read as clp-read-fn
+use Rattle.clp.proofs.clp_read.Kinds as clp-read-kinds
+use Rattle.clp.proofs.clp_read.Reads as clp-read-reads
+use Rattle.clp.proofs.clp_target as clp-target-fn
+use Rattle.clp.proofs.clp_target.Kinds as clp-target-kinds
+use Rattle.clp.proofs.clp_target.Reads as clp-target-reads
+
+pub clp-join-only :
+    (κs : Lifetimes.Lfts 2) (a : World.ArgsD clp-join-fn.signature κs)
+    (r r′ : World.ResD clp-join-fn.signature κs)
+    (s s′ : Clauses.AtExit (Kinds.endedOf 2 clp-join-kinds.ps clp-join-kinds.r) κs)
+    → clp-join-reads.Post κs a r s → clp-join-reads.Post κs a r′ s′
+    → (r ≡ r′) × (now (s .1 .0) ≡ now (s′ .1 .0))
+clp-join-only κs a r r′ s s′ p q = (p .0 ∙ sym (q .0), p .1 ∙ sym (q .1))
+
+pub clp-end-only :
+    (κs : Lifetimes.Lfts 0) (a : World.ArgsD clp-end-fn.signature κs)
+    (r r′ : World.ResD clp-end-fn.signature κs)
+    (s s′ : Clauses.AtExit (Kinds.endedOf 0 clp-end-kinds.ps clp-end-kinds.r) κs)
+    → clp-end-reads.Post κs a r s → clp-end-reads.Post κs a r′ s′
+    → r ≡ r′
+clp-end-only κs a r r′ s s′ p q = p ∙ sym q
+
+pub clp-next-term-only :
+    (κs : Lifetimes.Lfts 1) (a : World.ArgsD clp-next-term-fn.signature κs)
+    (r r′ : World.ResD clp-next-term-fn.signature κs)
+    (s s′ : Clauses.AtExit (Kinds.endedOf 1 clp-next-term-kinds.ps clp-next-term-kinds.r) κs)
+    → clp-next-term-reads.Post κs a r s → clp-next-term-reads.Post κs a r′ s′
+    → r ≡ r′
+clp-next-term-only κs a r r′ s s′ p q = p ∙ sym q
+
+pub clp-check-tree-only :
+    (κs : Lifetimes.Lfts 1) (a : World.ArgsD clp-check-tree-fn.signature κs)
+    (r r′ : World.ResD clp-check-tree-fn.signature κs)
+    (s s′ : Clauses.AtExit (Kinds.endedOf 1 clp-check-tree-kinds.ps clp-check-tree-kinds.r) κs)
+    → clp-check-tree-reads.Post κs a r s → clp-check-tree-reads.Post κs a r′ s′
+    → r ≡ r′
+clp-check-tree-only κs a r r′ s s′ p q = p ∙ sym q
+
+pub clp-full-path-only :
+    (κs : Lifetimes.Lfts 2) (a : World.ArgsD clp-full-path-fn.signature κs)
+    (r r′ : World.ResD clp-full-path-fn.signature κs)
+    (s s′ : Clauses.AtExit (Kinds.endedOf 2 clp-full-path-kinds.ps clp-full-path-kinds.r) κs)
+    → clp-full-path-reads.Post κs a r s → clp-full-path-reads.Post κs a r′ s′
+    → (r ≡ r′) × (now (s .1 .1 .0) ≡ now (s′ .1 .1 .0))
+clp-full-path-only κs a r r′ s s′ p q = (p .0 ∙ sym (q .0), p .1 ∙ sym (q .1))
+
+pub clp-resolve-only :
+    (κs : Lifetimes.Lfts 3) (a : World.ArgsD clp-resolve-fn.signature κs)
+    (r r′ : World.ResD clp-resolve-fn.signature κs)
+    (s s′ : Clauses.AtExit (Kinds.endedOf 3 clp-resolve-kinds.ps clp-resolve-kinds.r) κs)
+    → clp-resolve-reads.Post κs a r s → clp-resolve-reads.Post κs a r′ s′
+    → (r ≡ r′) × (now (s .1 .1 .1 .0) ≡ now (s′ .1 .1 .1 .0))
+clp-resolve-only κs a r r′ s s′ p q = (p .0 ∙ sym (q .0), p .1 ∙ sym (q .1))
+
+pub clp-read-only :
+    (κs : Lifetimes.Lfts 2) (a : World.ArgsD clp-read-fn.signature κs)
+    (r r′ : World.ResD clp-read-fn.signature κs)
+    (s s′ : Clauses.AtExit (Kinds.endedOf 2 clp-read-kinds.ps clp-read-kinds.r) κs)
+    → clp-read-reads.Post κs a r s → clp-read-reads.Post κs a r′ s′
+    → (r ≡ r′) × (now (s .1 .0) ≡ now (s′ .1 .0))
+clp-read-only κs a r r′ s s′ p q = (p .0 ∙ sym (q .0), p .1 ∙ sym (q .1))
+
+pub clp-target-only :
+    (κs : Lifetimes.Lfts 1) (a : World.ArgsD clp-target-fn.signature κs)
+    (r r′ : World.ResD clp-target-fn.signature κs)
+    (s s′ : Clauses.AtExit (Kinds.endedOf 1 clp-target-kinds.ps clp-target-kinds.r) κs)
+    → clp-target-reads.Post κs a r s → clp-target-reads.Post κs a r′ s′
+    → r ≡ r′
+clp-target-only κs a r r′ s s′ p q = p ∙ sym q

@@ -1,0 +1,37 @@
+use mathlib.Core.Path.{_≡_, refl, sym, ap, _∙_}
+use Rattle.clp.specs.Face.{told, checkedOf}
+use borrow.Author.Needs.{needs}
+use Rattle.clp.proofs.checked_of.Statement.{statement}
+use Rattle.clp.proofs.checked_of.Tie as tie
+use Rattle.clp.proofs.checked_of.Reads as reads
+use Rattle.clp.proofs.checked_of.Lts as lts
+use Rattle.clp.proofs.gives.Reads as gives-reads
+use Rattle.clp.proofs.refused.Reads as refused-reads
+
+-- src/lib.rt:225:26
+enum-told : tie.Need-enum-told
+enum-told c = search needs
+
+-- src/lib.rt:225:26
+gives-requires : tie.Need-gives-requires
+gives-requires c κs = search needs
+
+-- src/lib.rt:226:22
+enum-known-c : tie.Need-enum-known-c
+enum-known-c c = search needs
+
+-- src/lib.rt:226:28
+refused-requires : tie.Need-refused-requires
+refused-requires c κs = search needs
+
+-- src/lib.rt:221:1
+returns : tie.Need-returns
+returns c = c .gives .ensures ∙ sym (ap checkedOf (c .before .enum-told .given .1))
+
+-- src/lib.rt:221:1
+returns-2 : tie.Need-returns-2
+returns-2 c = c .refused .ensures ∙ sym (ap checkedOf (c .before .before .c .given .1))
+
+pub checked-of-spec : {M : Type 1} → statement M
+checked-of-spec =
+    tie.close (tie.spec enum-told gives-requires enum-known-c refused-requires returns returns-2)

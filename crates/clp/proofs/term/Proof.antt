@@ -1,0 +1,19 @@
+use mathlib.Core.Path.{_≡_, refl, sym, ap, _∙_}
+use Rattle.clp.proofs.FaceLaws.{term-as}
+use borrow.Author.Needs.{needs}
+use Rattle.clp.proofs.term.Statement.{statement}
+use Rattle.clp.proofs.term.Tie as tie
+use Rattle.clp.proofs.term.Reads as reads
+use Rattle.clp.proofs.term.Lts as lts
+use Rattle.clp.proofs.wide.Reads as wide-reads
+
+-- src/lib.rt:197:17
+wide-requires : tie.Need-wide-requires
+wide-requires c κs = search needs
+
+-- src/lib.rt:191:1
+returns : tie.Need-returns
+returns c = term-as {a = c .before .args .a} refl (c .wide .ensures)
+
+pub term-spec : {M : Type 1} → statement M
+term-spec = tie.close (tie.spec wide-requires returns)
