@@ -2,20 +2,18 @@
 use mathlib.Core.Path.{_≡_, refl, ap, sym, _∙_}
 use Prim.Native.Nat.{ℕ, zero, suc, _+_, _-_, _*_, _/_, _<_, _≤_, min}
 use mathlib.Core.List.{List, [], _∷_}
-use mathlib.Core.Bool.{Bool, true, false, _&&_, _||_, not, cond}
-use native.Mathlib.Numerals.{add-one}
+use mathlib.Core.Bool.{Bool, true, false, _||_, not, cond}
 use native.Mathlib.Omega.{arith}
-use borrow.Author.Tests.{eq-eqb, ne-eqb, lt-ltb, le-ltb, not-true, not-false}
-use lib.Dec.{eqb, ltb}
-use lib.ListN.{length, getD, take, drop, drop-of-length-le, length-drop, length-take}
-use lib.Seq.{drop-drop, take-all, length-take-le}
+use borrow.Author.Tests.{eq-eqb, ne-eqb, lt-ltb, le-ltb, not-false}
+use lib.Dec.{eqb}
+use lib.ListN.{length, getD, take, drop, length-drop, length-take}
+use lib.Seq.{drop-drop, length-take-le}
 use Rattle.text.specs.Bytes.{sameBytes, isLetter}
 use Rattle.text.specs.Lists.{allOf, anyOf, runLen}
-use Rattle.text.proofs.Basics.{and-false, or-in-l, or-in-r, either, no-case}
+use Rattle.text.proofs.Basics.{and-false, or-in-l, or-in-r, either}
 use Rattle.text.proofs.Scans.{all-on, all-stops, all-past-end, same-length, all-run, run-all}
 use Rattle.text.proofs.Slices.{part-from, length-from, part-between}
-use Rattle.tree.specs.Tree.{be16, kindIn, parentIn, tagLenIn, tagIn, paddingIn, numberIn, isZero, sameNode, twinIn, twin, holds, badRecord, records, checkFrom, checkTree}
-use Rattle.tree.specs.declared.Checked.{Checked}
+use Rattle.tree.specs.Tree.{parentIn, tagLenIn, tagIn, paddingIn, numberIn, isZero, sameNode, twinIn, twin, holds, badRecord, records, checkFrom, checkTree}
 use Rattle.tree.specs.declared.Checked.the-variants.{Good, Bad}
 
 -- ---- zeros

@@ -1,10 +1,10 @@
 -- Worked examples, by computation: one statement about one list. Assumes nothing.
 use mathlib.Core.Path.{_≡_, refl}
-use Prim.Native.Nat.{ℕ, zero, suc, _+_, _-_, _/_, _%_}
+use Prim.Native.Nat.{ℕ, _-_, _/_, _%_}
 use Prim.Native.String.{String}
 use mathlib.Core.List.{List, [], _∷_, _++_, map}
 use lib.ListN.{length, replicate}
-use Rattle.text.specs.Bytes.{bytes, oneOf, sameBytes}
+use Rattle.text.specs.Bytes.{bytes, sameBytes}
 use Rattle.text.specs.Lists.{allOf, anyOf, parts, runLen}
 use Rattle.text.specs.Decimal.{valueFrom, isDecimal, width, digits}
 use Rattle.text.specs.Room.{wrote, fitted, filled}
@@ -15,7 +15,7 @@ use Rattle.tree.specs.declared.Checked.the-variants.{Good, Bad}
 use Rattle.tree.specs.declared.Resolved.{Resolved}
 use Rattle.tree.specs.declared.Resolved.the-variants as resolved
 use Rattle.tree.specs.Tree.{tagIn, paddingIn, sameNode, twinIn, twin, badRecord, checkFrom, checkTree, recordAt}
-use Rattle.tree.specs.Path.{segment, pathUp, fullPath, pathAnswer, pathRoom}
+use Rattle.tree.specs.Path.{segment, pathUp, fullPath, pathAnswer}
 use Rattle.tree.specs.Resolve.{nodesFrom, isTagged, isNamed, taggedUnder, namedUnder, along, foundOf, resolveOf, resolveList}
 
 -- a record: parent, tag, number

@@ -1,18 +1,17 @@
 -- From segment to segment: what each piece of a path leads to. Assumes nothing.
 use mathlib.Core.Path.{_≡_, refl, ap, sym, _∙_}
-use Prim.Native.Nat.{ℕ, zero, suc, _+_, _-_, _*_, _/_, _<_, _≤_}
+use Prim.Native.Nat.{ℕ, zero, suc, _+_, _-_, _<_, _≤_}
 use native.Mathlib.Omega.{arith}
-use mathlib.Core.List.{List, [], _∷_, _++_}
-use mathlib.Core.Bool.{Bool, true, false, cond, _&&_}
+use mathlib.Core.List.{List, [], _∷_}
+use mathlib.Core.Bool.{Bool, true, false, cond}
 use mathlib.Core.Option.{Option, none, some}
 use borrow.Author.Tests.{le-leb, lt-leb, leb-true, leb-false, eq-eqb, ne-eqb}
-use lib.Dec.{eqb, leb}
+use lib.Dec.{leb}
 use lib.ListN.{length, take, drop}
 use lib.Seq.{take-take, length-take-le}
 use Rattle.text.specs.Bytes.{bytes, sameBytes, isLetter}
 use Rattle.text.specs.Lists.{parts, runLen}
 use Rattle.text.specs.Decimal.{valueFrom}
-use Rattle.text.proofs.Basics.{none-some, same-some}
 use Rattle.text.proofs.Scans.{run-within}
 use Rattle.text.proofs.Slices.{part-between}
 use Rattle.forms.specs.declared.Piece.{Piece}
@@ -21,7 +20,7 @@ use Rattle.forms.specs.Targets.{Segment, here, above, child, children, segmentO
 use Rattle.forms.specs.Answers.{pieceOf, segmentText, segmentAt}
 use Rattle.forms.proofs.SegmentLaws.{segment-text, segment-within, parts-last, parts-more}
 use Rattle.tree.specs.Tree.{records, parent}
-use Rattle.tree.specs.Resolve.{nodesFrom, isNamed, taggedUnder, namedUnder, Found, nodes, refused, orNone, stepBy, along}
+use Rattle.tree.specs.Resolve.{nodesFrom, isNamed, namedUnder, Found, nodes, refused, orNone, stepBy, along}
 use Rattle.tree.specs.Steps.{firstOf, segmentsFrom, alongFrom, starred}
 
 -- ---- a segment, and those after it

@@ -3,15 +3,14 @@ use mathlib.Core.Path.{_≡_, refl, ap, sym, _∙_}
 use Prim.Native.Nat.{ℕ, zero, suc, _+_, _-_, _*_, _/_, _<_, _≤_}
 use native.Mathlib.Omega.{arith}
 use mathlib.Core.List.{List, [], _∷_}
-use mathlib.Core.Bool.{Bool, true, false, cond, not, _||_}
+use mathlib.Core.Bool.{Bool, true, false, cond}
 use borrow.Author.Tests.{ltb-false, eqb-false, not-false}
-use lib.Dec.{eqb, ltb}
 use lib.ListN.{length, getD, take, drop, length-drop}
 use lib.Seq.{getD-drop}
 use Rattle.text.specs.Bytes.{isLetter}
 use Rattle.text.specs.Lists.{allOf, anyOf}
 use Rattle.text.proofs.Basics.{or-l, or-r}
-use Rattle.tree.specs.Tree.{parentIn, tagLenIn, tagIn, numberIn, twin, holds, badRecord, records, checkFrom, checkTree, recordAt, parent, tag, number}
+use Rattle.tree.specs.Tree.{parentIn, tagLenIn, twin, holds, badRecord, records, checkFrom, checkTree, recordAt, parent, tag, number}
 use Rattle.tree.specs.declared.Checked.{Checked}
 use Rattle.tree.specs.declared.Checked.the-variants.{Good, Bad}
 

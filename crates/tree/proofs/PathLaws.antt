@@ -9,13 +9,13 @@ use mathlib.Core.Bool.{Bool, true, false, cond, not, _&&_, _||_}
 use mathlib.Core.Option.{Option, none, some}
 use borrow.Author.Tests.{le-leb, lt-leb, le-ltb, ltb-true, ltb-false, eqb-true, eqb-false, eq-eqb, ne-eqb}
 use lib.Dec.{eqb, leb, ltb, eqb·suc-zero}
-use lib.ListN.{length, getD, take, drop, length-append, length-take, length-drop}
-use lib.Seq.{take-append-seam, drop-append-seam, getD-append-add, getD-take, getD-drop, take-take, drop-drop, length-take-le}
+use lib.ListN.{length, getD, take, drop, length-append}
+use lib.Seq.{take-append-seam, drop-append-seam, getD-append-add, getD-take, take-take, drop-drop, length-take-le}
 use Rattle.text.specs.Bytes.{bytes, sameBytes, isLetter, isDigit}
 use Rattle.text.specs.Lists.{allOf, anyOf, parts, each, between, isNil, runLen}
 use Rattle.text.specs.Decimal.{valueFrom, isDecimal, digits}
-use Rattle.text.specs.Room.{wrote, filled}
-use Rattle.text.proofs.Basics.{and-l, and-r, and-in, and-false, or-l, or-r, or-in-l, or-in-r, no-case, neg-in, either, same-eq, same-refl, all-append, any-append, parts-between}
+use Rattle.text.specs.Room.{wrote}
+use Rattle.text.proofs.Basics.{and-l, and-r, and-in, or-l, or-r, or-in-l, or-in-r, no-case, neg-in, either, same-eq, same-refl, all-append, any-append, parts-between}
 use Rattle.text.proofs.Classes.{letter-bounds, digit-bounds, digit-no-letter}
 use Rattle.text.proofs.Decimals.{digits-all, digits-some, digits-first, digits-two, value-two}
 use Rattle.text.proofs.Slices.{drop-take}
@@ -23,13 +23,13 @@ use Rattle.text.proofs.Writes.{filled-room}
 use Rattle.words.specs.Words.{sessionName}
 use Rattle.forms.specs.Targets.{isSeparator, tagLen, isTagLen, isNumbered, isStarred, isSegment, areSegments, Segment, child, segmentOf, Target, path, segmentsOf, pathOf, targetOf}
 use Rattle.tree.specs.declared.Checked.{Checked}
-use Rattle.tree.specs.declared.Checked.the-variants.{Good, Bad}
+use Rattle.tree.specs.declared.Checked.the-variants.{Good}
 use Rattle.tree.specs.declared.Resolved.the-variants as resolved
 use Rattle.tree.specs.Tree.{parentIn, tagLenIn, tagIn, numberIn, sameNode, twinIn, twin, records, checkTree, recordAt, parent, tag, number}
 use Rattle.tree.specs.Path.{segment, pathUp, fullPath}
-use Rattle.tree.specs.Resolve.{nodesFrom, isTagged, isNamed, namedUnder, Found, nodes, refused, orNone, stepBy, along, inTree, from, orForm, foundOf, resolvedBy, listBy, resolveOf, resolveList}
+use Rattle.tree.specs.Resolve.{nodesFrom, isTagged, isNamed, namedUnder, Found, nodes, refused, orNone, stepBy, along, inTree, orForm, foundOf, resolvedBy, listBy, resolveOf, resolveList}
 use Rattle.tree.specs.Ways.{waysUp, segmentsTo}
-use Rattle.tree.proofs.GoodLaws.{GoodNode, good-node, good-length, byte-of}
+use Rattle.tree.proofs.GoodLaws.{good-node, good-length, byte-of}
 use Rattle.tree.proofs.UpLaws.{length-tag}
 
 -- ---- no two nodes of a good tree are the same
@@ -219,6 +219,14 @@ ways-some t zero one = absurd (omega arith)
 ways-some t (suc m) one =
     ap (λ (b : Bool). isNil (cond b [] (waysUp m t (parent t (suc m)) ++ (segment t (suc m) ∷ [])))) (eqb·suc-zero m) ∙ nil-last (waysUp m t (parent t (suc m))) (segment t (suc m))
 
+-- the segments ws lead from the root to node m, and s from there to k
+one-more : (t : List ℕ) (ws : List (List ℕ)) (s : List ℕ) (m k p : ℕ) (rest : List (List ℕ)) → along t 0 p (ws ++ (s ∷ rest)) ≡ along t m (p + length (each 47 ws)) (s ∷ rest)
+    → along t m (p + length (each 47 ws)) (s ∷ rest) ≡ along t k (p + length (each 47 ws) + length s + 1) rest
+    → along t 0 p ((ws ++ (s ∷ [])) ++ rest) ≡ along t k (p + length (each 47 (ws ++ (s ∷ [])))) rest
+one-more t ws s m k p rest e h =
+    let y : p + length (each 47 ws) + length s + 1 ≡ p + length (each 47 (ws ++ (s ∷ []))) = omega (arith, ap length (each-append 47 ws s), length-append (each 47 ws) (47 ∷ s)) in
+    ap (along t 0 p) (append-assoc ws (s ∷ []) rest) ∙ e ∙ h ∙ ap (λ (i : ℕ). along t k i rest) y
+
 module _ (t : List ℕ) (good : checkTree t ≡ Good) (byte : (i : ℕ) → getD t i 0 ≤ 255) where
   number-most : (k : ℕ) → number t k ≤ 65535
   number-most k =
@@ -274,14 +282,8 @@ module _ (t : List ℕ) (good : checkTree t ≡ Good) (byte : (i : ℕ) → getD
           let one : 1 ≤ k = omega arith in
           let g = good-node t good k one h in
           let l = g .lower in
-          let ws = waysUp f t (parent t k) in
-          let s = segment t k in
-          let y : p + length (each 47 ws) + length s + 1 ≡ p + length (each 47 (ws ++ (s ∷ []))) =
-          omega (arith, ap length (each-append 47 ws s), length-append (each 47 ws) (47 ∷ s)) in
-          ap (along t 0 p) (append-assoc ws (s ∷ []) rest)
-          ∙ ih (omega arith) (omega arith) p (s ∷ rest)
-          ∙ step-to k one h (p + length (each 47 ws)) rest
-          ∙ ap (λ (i : ℕ). along t k i rest) y
+          one-more t (waysUp f t (parent t k)) (segment t k) (parent t k) k p rest (ih (omega arith) (omega arith) p (segment t k ∷ rest))
+          (step-to k one h (p + length (each 47 (waysUp f t (parent t k)))) rest)
 
   ways-all : (q : List ℕ → Bool) → ((j : ℕ) → 1 ≤ j → j ≤ records t → q (segment t j) ≡ true) → (f k : ℕ) → k ≤ records t → allOf q (waysUp f t k) ≡ true
   unfolding waysUp allOf

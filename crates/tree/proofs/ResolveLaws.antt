@@ -1,25 +1,25 @@
 -- What holds of every resolving: what a starred tag gives, what `..` after a child leads back to, and that only nodes of the tree are given.
 use mathlib.Core.Path.{_≡_, refl, ap, sym, _∙_}
-use Prim.Native.Nat.{ℕ, zero, suc, _+_, _-_, _*_, _<_, _≤_}
+use Prim.Native.Nat.{ℕ, zero, suc, _+_, _<_, _≤_}
 use native.Mathlib.Nat.{eq-or-lt-of-le}
 use native.Mathlib.Omega.{arith}
-use mathlib.Core.List.{List, [], _∷_, _++_, List·Memᴰ, List·Memᴰ·head, List·Memᴰ·tail, List·Memᴰ·not-nil, List·Memᴰ·cases-cons}
+use mathlib.Core.List.{List, [], _∷_, List·Memᴰ, List·Memᴰ·head, List·Memᴰ·tail, List·Memᴰ·not-nil, List·Memᴰ·cases-cons}
 use mathlib.Core.Logic.{⊎-elim}
-use mathlib.Core.Bool.{Bool, true, false, cond, not, _&&_}
+use mathlib.Core.Bool.{Bool, true, false, cond}
 use mathlib.Core.Option.{Option, none, some}
-use borrow.Author.Tests.{le-leb, lt-leb, lt-ltb, ltb-true, ltb-false, eqb-true, eqb-false, eq-eqb, ne-eqb}
+use borrow.Author.Tests.{le-leb, lt-ltb, ltb-true, ltb-false, eqb-true, eqb-false, ne-eqb}
 use lib.Dec.{eqb, leb, ltb}
 use lib.ListN.{length}
 use Rattle.text.specs.Bytes.{bytes, sameBytes}
 use Rattle.text.specs.Lists.{allOf}
-use Rattle.text.proofs.Basics.{and-l, and-r, and-in, no-case, either}
-use Rattle.forms.specs.Targets.{Segment, here, above, child, children, segmentOf, Target, session, path, targetOf, isNumbered, isStarred}
+use Rattle.text.proofs.Basics.{and-l, and-r, and-in, no-case}
+use Rattle.forms.specs.Targets.{Segment, here, above, child, children, segmentOf, Target, session, path, targetOf}
 use Rattle.tree.specs.declared.Checked.{Checked}
 use Rattle.tree.specs.declared.Checked.the-variants.{Good, Bad}
 use Rattle.tree.specs.Tree.{records, checkTree, parent, tag, number}
 use Rattle.tree.specs.Resolve.{nodesFrom, isTagged, isNamed, taggedUnder, namedUnder, Found, session′, nodes, refused, orNone, stepBy, along, inTree, from, orForm, foundOf}
 use Rattle.tree.specs.Ways.{ascends}
-use Rattle.tree.proofs.GoodLaws.{GoodNode, good-node}
+use Rattle.tree.proofs.GoodLaws.{good-node}
 
 -- ---- the nodes that pass a test
 

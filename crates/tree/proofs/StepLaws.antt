@@ -1,32 +1,20 @@
--- One record and one segment at a time: what the code finds is what specs/Resolve says. Assumes nothing.
+-- One record at a time: what the code finds among the records is what specs/Resolve says. Assumes nothing.
 use mathlib.Core.Path.{_≡_, refl, ap, sym, _∙_}
-use Prim.Native.Nat.{ℕ, zero, suc, _+_, _-_, _*_, _/_, _<_, _≤_}
+use Prim.Native.Nat.{ℕ, suc, _+_, _-_, _*_, _/_, _<_, _≤_}
 use native.Mathlib.Numerals.{add-one}
 use native.Mathlib.Omega.{arith}
 use mathlib.Core.List.{List, [], _∷_, _++_}
 use mathlib.Core.Bool.{Bool, true, false, cond, _&&_}
-use mathlib.Core.Option.{Option, none, some}
-use borrow.Author.Tests.{le-leb, lt-leb, eq-eqb, ne-eqb}
-use lib.Dec.{eqb, leb}
-use lib.ListN.{length, getD, take, drop, length-drop, length-append}
-use lib.Seq.{sets, take-take, length-take-le}
-use Rattle.text.specs.Bytes.{bytes, sameBytes, isLetter}
-use Rattle.text.specs.Lists.{parts, upTo, runLen}
-use Rattle.text.proofs.Basics.{and-false, either, none-some, same-some}
-use Rattle.text.proofs.Scans.{run-within}
+use borrow.Author.Tests.{eq-eqb, ne-eqb}
+use lib.Dec.{eqb}
+use lib.ListN.{length, take, drop}
+use Rattle.text.specs.Bytes.{sameBytes}
 use Rattle.text.proofs.Slices.{part-from, part-between}
-use Rattle.text.proofs.Writes.{sets-append}
-use Rattle.forms.specs.declared.Piece.{Piece}
-use Rattle.forms.specs.declared.Piece.the-variants as piece
-use Rattle.forms.specs.Targets.{Segment, here, above, child, children, segmentOf, isSeparator, tagLen, isNumbered, isStarred}
-use Rattle.forms.specs.Answers.{pieceOf, segmentText, segmentAt}
-use Rattle.forms.proofs.SegmentLaws.{segment-text, segment-within, parts-last, parts-more}
-use Rattle.tree.specs.declared.Checked.{Checked}
-use Rattle.tree.specs.declared.Checked.the-variants.{Good, Bad}
-use Rattle.tree.specs.Tree.{parentIn, numberIn, tagLenIn, tagIn, records, checkTree, recordAt, parent, tag, number}
-use Rattle.tree.specs.Resolve.{nodesFrom, isTagged, isNamed, taggedUnder, namedUnder, Found, nodes, refused, orNone, stepBy, along}
-use Rattle.tree.specs.Steps.{taggedIn, namedIn, firstOf, kept, segmentsFrom, alongFrom, starred}
-use Rattle.tree.proofs.GoodLaws.{GoodNode, good-node, good-whole, good-few}
+use Rattle.tree.specs.declared.Checked.the-variants.{Good}
+use Rattle.tree.specs.Tree.{parentIn, numberIn, tagLenIn, tagIn, records, checkTree, recordAt, number}
+use Rattle.tree.specs.Resolve.{nodesFrom, isTagged, isNamed, namedUnder}
+use Rattle.tree.specs.Steps.{taggedIn, namedIn, firstOf, kept}
+use Rattle.tree.proofs.GoodLaws.{good-node, good-whole}
 
 -- ---- one record
 

@@ -4,14 +4,13 @@ use Prim.Native.Nat.{ℕ, zero, suc, _+_, _-_, _*_, _/_, _<_, _≤_}
 use native.Mathlib.Numerals.{add-one}
 use native.Mathlib.Omega.{arith}
 use mathlib.Core.List.{List, [], _∷_, _++_}
-use mathlib.Core.Bool.{Bool, true, false, cond}
+use mathlib.Core.Bool.{Bool, cond}
 use borrow.Author.Tests.{lt-ltb, le-ltb, ne-eqb}
 use lib.Dec.{eqb, eqb·suc-zero}
 use lib.ListN.{length, getD, take, drop, set, length-append, length-drop}
 use lib.Seq.{sets, length-take-le, drop-drop}
 use Rattle.text.specs.Decimal.{width, digits}
 use Rattle.text.specs.Room.{fitted, filled}
-use Rattle.text.specs.declared.Answer.{Answer}
 use Rattle.text.specs.declared.Answer.the-variants.{Wrote, Refused}
 use Rattle.text.proofs.Slices.{part-between}
 use Rattle.text.proofs.Writes.{sets-append, fitted-room, fitted-none, filled-none, filled-sets}
@@ -20,7 +19,7 @@ use Rattle.tree.specs.Tree.{tagLenIn, tagIn, records, checkTree, recordA
 use Rattle.tree.specs.Path.{segment, pathUp, fullPath, pathBy, pathAnswer, pathRoomBy, pathRoom}
 use Rattle.tree.specs.declared.Checked.{Checked}
 use Rattle.tree.specs.declared.Checked.the-variants.{Good, Bad}
-use Rattle.tree.proofs.GoodLaws.{GoodNode, good-node, good-whole, good-few, byte-of}
+use Rattle.tree.proofs.GoodLaws.{good-node, good-whole, byte-of}
 
 -- ---- the fields, as the code reads them
 

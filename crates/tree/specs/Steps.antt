@@ -1,4 +1,4 @@
--- Resolving as the code goes: one record, one segment and one answer at a time. proofs/ResolveLaws and proofs/StepLaws have it that these are specs/Resolve.
+-- Resolving as the code goes: one record, one segment and one answer at a time. proofs/StepLaws, FollowLaws and GiveLaws have it that these are those of specs/Resolve.
 use Prim.Native.Nat.{ℕ, _+_, _≤_}
 use mathlib.Core.List.{List, [], _∷_}
 use mathlib.Core.Bool.{Bool, cond, _&&_}

@@ -10,7 +10,6 @@ use Rattle.tree.proofs.child.Reads as child-reads
 use Rattle.tree.proofs.parent.Reads as parent-reads
 use Rattle.tree.proofs.+follow.{statement}
 use Rattle.tree.proofs.+follow.Tie.{close}
-use mathlib.Core.Path.{_≡_, refl, ap, sym, _∙_}
 use native.Mathlib.Omega.{arith}
 use borrow.Author.Needs.{needs}
 use Prim.Native.Nat.{_+_, _-_, _≤_}

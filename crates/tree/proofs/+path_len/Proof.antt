@@ -9,7 +9,6 @@ use Rattle.tree.proofs.parent.Reads as parent-reads
 use Rattle.tree.proofs.segment_len.Reads as segment-len-reads
 use Rattle.tree.proofs.+path_len.{statement}
 use Rattle.tree.proofs.+path_len.Tie.{close}
-use mathlib.Core.Path.{_≡_, refl, ap, sym, _∙_}
 use native.Mathlib.Omega.{arith}
 use borrow.Author.Needs.{needs}
 use Rattle.tree.proofs.UpLaws.{root-length, path-length}

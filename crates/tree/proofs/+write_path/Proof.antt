@@ -9,7 +9,6 @@ use Rattle.tree.proofs.parent.Reads as parent-reads
 use Rattle.tree.proofs.put_segment.Reads as put-segment-reads
 use Rattle.tree.proofs.+write_path.{statement}
 use Rattle.tree.proofs.+write_path.Tie.{close}
-use mathlib.Core.Path.{_≡_, refl, ap, sym, _∙_}
 use native.Mathlib.Omega.{arith}
 use borrow.Author.Needs.{needs}
 use Rattle.tree.proofs.UpLaws.{root-length, root-put, path-place, path-most, path-put}

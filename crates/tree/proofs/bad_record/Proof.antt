@@ -2,12 +2,6 @@
 use borrow.Author.Needs.{needs}
 use Rattle.tree.proofs.bad_record.Statement.{statement}
 use Rattle.tree.proofs.bad_record.Tie as tie
-use Rattle.tree.proofs.bad_record.Reads as reads
-use Rattle.tree.proofs.bad_record.Lts as lts
-use Rattle.text.proofs.letters_len.Reads as letters-len-reads
-use Rattle.text.proofs.pair.Reads as pair-reads
-use Rattle.tree.proofs.twin.Reads as twin-reads
-use Rattle.tree.proofs.zeros.Reads as zeros-reads
 use Rattle.tree.proofs.CheckLaws.{bad-cut, bad-kind, bad-beyond, bad-parent, bad-no-tag, bad-long-tag, bad-letter, bad-padding, bad-number, by-twin}
 
 returns : tie.Need-returns

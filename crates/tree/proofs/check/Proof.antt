@@ -1,14 +1,11 @@
 -- `tree::check` meets its contract.
 use Rattle.tree.proofs.check.Statement.{statement}
 use Rattle.tree.proofs.check.Tie as tie
-use Rattle.tree.proofs.check.Reads as reads
-use Rattle.tree.proofs.check.Lts as lts
-use Rattle.tree.proofs.bad_record.Reads as bad-record-reads
-use mathlib.Core.Path.{_≡_, refl, ap, sym, _∙_}
-use Prim.Native.Nat.{ℕ, suc, _≤_, _<_, _-_, _+_, _*_, _/_}
+use mathlib.Core.Path.{_≡_}
+use Prim.Native.Nat.{_≤_, _-_, _*_}
 use native.Mathlib.Omega.{arith}
 use borrow.Author.Needs.{needs}
-use lib.ListN.{length, getD, take, drop}
+use lib.ListN.{length}
 use Rattle.tree.specs.Tree.{records, checkFrom, checkTree}
 use Rattle.tree.proofs.CheckLaws.{check-start, check-again, check-stop, check-end}
 use lib.Seq.{length-take-le}

@@ -1,15 +1,11 @@
 -- `tree::child` meets its contract.
 use Rattle.tree.proofs.child.Statement.{statement}
 use Rattle.tree.proofs.child.Tie as tie
-use Rattle.tree.proofs.child.Reads as reads
-use Rattle.tree.proofs.child.Lts as lts
-use Rattle.tree.proofs.is_named.Reads as is-named-reads
-use mathlib.Core.Path.{_≡_, refl, ap, sym, _∙_}
-use Prim.Native.Nat.{ℕ, suc, _≤_, _<_, _-_, _+_, _*_, _/_}
+use mathlib.Core.Path.{_≡_}
+use Prim.Native.Nat.{suc, _≤_, _-_, _*_, _/_}
 use native.Mathlib.Omega.{arith}
 use borrow.Author.Needs.{needs}
-use lib.ListN.{length, getD, take, drop}
-use Rattle.tree.specs.Tree.{records}
+use lib.ListN.{length}
 use Rattle.tree.specs.Resolve.{nodesFrom, isNamed, namedUnder}
 use Rattle.tree.specs.Steps.{firstOf}
 use Rattle.tree.proofs.CheckLaws.{whole-from}

@@ -2,12 +2,6 @@
 use borrow.Author.Needs.{needs}
 use Rattle.tree.proofs.full_path.Statement.{statement}
 use Rattle.tree.proofs.full_path.Tie as tie
-use Rattle.tree.proofs.full_path.Reads as reads
-use Rattle.tree.proofs.full_path.Lts as lts
-use Rattle.tree.proofs.check.Reads as check-reads
-use Rattle.tree.proofs.path_in.Reads as path-in-reads
-use mathlib.Core.Path.{_≡_, refl, ap, sym, _∙_}
-use native.Mathlib.Omega.{arith}
 use Rattle.tree.proofs.UpLaws.{told-good, bad-answer, bad-room}
 
 check-requires : tie.Need-check-requires

@@ -2,12 +2,6 @@
 use borrow.Author.Needs.{needs}
 use Rattle.tree.proofs.give.Statement.{statement}
 use Rattle.tree.proofs.give.Tie as tie
-use Rattle.tree.proofs.give.Reads as reads
-use Rattle.tree.proofs.give.Lts as lts
-use Rattle.tree.proofs.follow.Reads as follow-reads
-use Rattle.tree.proofs.give_one.Reads as give-one-reads
-use Rattle.tree.proofs.give_tagged.Reads as give-tagged-reads
-use mathlib.Core.Path.{_≡_, refl, ap, sym, _∙_}
 use native.Mathlib.Omega.{arith}
 use Rattle.tree.proofs.GiveLaws.{node-few, tag-inside, node-given, node-put, tagged-given, tagged-put, lost-given, lost-put}
 use Prim.Native.Nat.{_+_, _≤_}

@@ -2,12 +2,6 @@
 use borrow.Author.Needs.{needs}
 use Rattle.tree.proofs.give_from.Statement.{statement}
 use Rattle.tree.proofs.give_from.Tie as tie
-use Rattle.tree.proofs.give_from.Reads as reads
-use Rattle.tree.proofs.give_from.Lts as lts
-use Rattle.tree.proofs.give.Reads as give-reads
-use Rattle.tree.proofs.verdict.Reads as verdict-reads
-use mathlib.Core.Path.{_≡_, refl, ap, sym, _∙_}
-use native.Mathlib.Omega.{arith}
 use Rattle.tree.proofs.GiveLaws.{fine-good, fine-node, flawed-given, flawed-put, fine-given, fine-put}
 
 verdict-requires : tie.Need-verdict-requires

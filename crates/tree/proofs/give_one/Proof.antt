@@ -2,11 +2,6 @@
 use borrow.Author.Needs.{needs}
 use Rattle.tree.proofs.give_one.Statement.{statement}
 use Rattle.tree.proofs.give_one.Tie as tie
-use Rattle.tree.proofs.give_one.Reads as reads
-use Rattle.tree.proofs.give_one.Lts as lts
-use Rattle.tree.proofs.put.Reads as put-reads
-use mathlib.Core.Path.{_≡_, refl, ap, sym, _∙_}
-use native.Mathlib.Omega.{arith}
 use Rattle.tree.proofs.GiveLaws.{one-refused, one-unchanged, one-given, one-put}
 
 returns : tie.Need-returns

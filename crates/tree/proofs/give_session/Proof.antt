@@ -2,11 +2,6 @@
 use borrow.Author.Needs.{needs}
 use Rattle.tree.proofs.give_session.Statement.{statement}
 use Rattle.tree.proofs.give_session.Tie as tie
-use Rattle.tree.proofs.give_session.Reads as reads
-use Rattle.tree.proofs.give_session.Lts as lts
-use Rattle.tree.proofs.verdict.Reads as verdict-reads
-use mathlib.Core.Path.{_≡_, refl, ap, sym, _∙_}
-use native.Mathlib.Omega.{arith}
 use Rattle.tree.proofs.GiveLaws.{flawed-given, session-given}
 
 verdict-requires : tie.Need-verdict-requires

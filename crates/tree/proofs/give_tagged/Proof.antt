@@ -2,12 +2,6 @@
 use borrow.Author.Needs.{needs}
 use Rattle.tree.proofs.give_tagged.Statement.{statement}
 use Rattle.tree.proofs.give_tagged.Tie as tie
-use Rattle.tree.proofs.give_tagged.Reads as reads
-use Rattle.tree.proofs.give_tagged.Lts as lts
-use Rattle.tree.proofs.count_tagged.Reads as count-tagged-reads
-use Rattle.tree.proofs.put_tagged.Reads as put-tagged-reads
-use mathlib.Core.Path.{_≡_, refl, ap, sym, _∙_}
-use native.Mathlib.Omega.{arith}
 use Rattle.tree.proofs.GiveLaws.{none-given, none-put, star-refused, star-unchanged, star-given, star-put}
 
 count-tagged-requires : tie.Need-count-tagged-requires

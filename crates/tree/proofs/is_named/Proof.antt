@@ -2,12 +2,6 @@
 use borrow.Author.Needs.{needs}
 use Rattle.tree.proofs.is_named.Statement.{statement}
 use Rattle.tree.proofs.is_named.Tie as tie
-use Rattle.tree.proofs.is_named.Reads as reads
-use Rattle.tree.proofs.is_named.Lts as lts
-use Rattle.tree.proofs.be16.Reads as be16-reads
-use Rattle.tree.proofs.is_tagged.Reads as is-tagged-reads
-use mathlib.Core.Path.{_≡_, refl, ap, sym, _∙_}
-use native.Mathlib.Omega.{arith}
 use Rattle.tree.proofs.StepLaws.{other-number, by-number}
 
 shared-slice-read-be16 : tie.Need-shared-slice-read-be16

@@ -2,12 +2,6 @@
 use borrow.Author.Needs.{needs}
 use Rattle.tree.proofs.is_tagged.Statement.{statement}
 use Rattle.tree.proofs.is_tagged.Tie as tie
-use Rattle.tree.proofs.is_tagged.Reads as reads
-use Rattle.tree.proofs.is_tagged.Lts as lts
-use Rattle.text.proofs.pair.Reads as pair-reads
-use Rattle.text.proofs.same.Reads as same-reads
-use mathlib.Core.Path.{_≡_, refl, ap, sym, _∙_}
-use native.Mathlib.Omega.{arith}
 use Rattle.tree.proofs.StepLaws.{other-parent, by-tag}
 
 shared-slice-read-pair : tie.Need-shared-slice-read-pair

@@ -2,11 +2,6 @@
 use borrow.Author.Needs.{needs}
 use Rattle.tree.proofs.keep.Statement.{statement}
 use Rattle.tree.proofs.keep.Tie as tie
-use Rattle.tree.proofs.keep.Reads as reads
-use Rattle.tree.proofs.keep.Lts as lts
-use Rattle.tree.proofs.put.Reads as put-reads
-use mathlib.Core.Path.{_≡_, refl, ap, sym, _∙_}
-use native.Mathlib.Omega.{arith}
 use Rattle.tree.proofs.GiveLaws.{kept-place, kept-put, left-place, left-put}
 
 put-requires : tie.Need-put-requires

@@ -2,13 +2,7 @@
 use borrow.Author.Needs.{needs}
 use Rattle.tree.proofs.number.Statement.{statement}
 use Rattle.tree.proofs.number.Tie as tie
-use Rattle.tree.proofs.number.Reads as reads
-use Rattle.tree.proofs.number.Lts as lts
-use Rattle.tree.proofs.be16.Reads as be16-reads
-use Prim.Native.Nat.{_+_, _-_, _*_, _/_, _<_, _≤_}
-use mathlib.Core.Path.{_≡_, refl, ap, sym, _∙_}
 use native.Mathlib.Omega.{arith}
-use lib.ListN.{length}
 use Rattle.tree.proofs.UpLaws.{node-whole, number-read}
 
 sub-p : tie.Need-sub-p

@@ -2,13 +2,7 @@
 use borrow.Author.Needs.{needs}
 use Rattle.tree.proofs.parent.Statement.{statement}
 use Rattle.tree.proofs.parent.Tie as tie
-use Rattle.tree.proofs.parent.Reads as reads
-use Rattle.tree.proofs.parent.Lts as lts
-use Rattle.text.proofs.pair.Reads as pair-reads
-use Prim.Native.Nat.{_+_, _-_, _*_, _/_, _<_, _≤_}
-use mathlib.Core.Path.{_≡_, refl, ap, sym, _∙_}
 use native.Mathlib.Omega.{arith}
-use lib.ListN.{length}
 use Rattle.tree.proofs.UpLaws.{node-whole, parent-read, parent-lower}
 
 sub-p : tie.Need-sub-p

@@ -2,13 +2,6 @@
 use borrow.Author.Needs.{needs}
 use Rattle.tree.proofs.path_in.Statement.{statement}
 use Rattle.tree.proofs.path_in.Tie as tie
-use Rattle.tree.proofs.path_in.Reads as reads
-use Rattle.tree.proofs.path_in.Lts as lts
-use Rattle.text.proofs.put.Reads as put-reads
-use Rattle.tree.proofs.path_len.Reads as path-len-reads
-use Rattle.tree.proofs.write_path.Reads as write-path-reads
-use mathlib.Core.Path.{_≡_, refl, ap, sym, _∙_}
-use native.Mathlib.Omega.{arith}
 use Rattle.tree.proofs.UpLaws.{none-answer, none-room, small-root, small-root-room, root-answer, root-room, small-node, small-node-room, node-answer, node-room}
 
 returns : tie.Need-returns

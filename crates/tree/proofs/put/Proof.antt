@@ -2,9 +2,7 @@
 use borrow.Author.Needs.{needs}
 use Rattle.tree.proofs.put.Statement.{statement}
 use Rattle.tree.proofs.put.Tie as tie
-use Rattle.tree.proofs.put.Reads as reads
-use Rattle.tree.proofs.put.Lts as lts
-use mathlib.Core.Path.{_≡_, refl, ap, sym, _∙_}
+use mathlib.Core.Path.{sym}
 use native.Mathlib.Omega.{arith}
 use lib.Seq.{set-out}
 

@@ -2,14 +2,6 @@
 use borrow.Author.Needs.{needs}
 use Rattle.tree.proofs.put_segment.Statement.{statement}
 use Rattle.tree.proofs.put_segment.Tie as tie
-use Rattle.tree.proofs.put_segment.Reads as reads
-use Rattle.tree.proofs.put_segment.Lts as lts
-use Rattle.text.proofs.copy.Reads as copy-reads
-use Rattle.text.proofs.put.Reads as put-reads
-use Rattle.text.proofs.put_decimal.Reads as put-decimal-reads
-use Rattle.tree.proofs.number.Reads as number-reads
-use Rattle.tree.proofs.tag_len.Reads as tag-len-reads
-use mathlib.Core.Path.{_≡_, refl, ap, sym, _∙_}
 use native.Mathlib.Omega.{arith}
 use Rattle.tree.proofs.UpLaws.{digits-most, segment-place, segment-put}
 

@@ -1,17 +1,12 @@
 -- `tree::put_tagged` meets its contract.
 use Rattle.tree.proofs.put_tagged.Statement.{statement}
 use Rattle.tree.proofs.put_tagged.Tie as tie
-use Rattle.tree.proofs.put_tagged.Reads as reads
-use Rattle.tree.proofs.put_tagged.Lts as lts
-use Rattle.tree.proofs.is_tagged.Reads as is-tagged-reads
-use Rattle.tree.proofs.keep.Reads as keep-reads
-use mathlib.Core.Path.{_≡_, refl, ap, sym, _∙_}
-use Prim.Native.Nat.{ℕ, suc, _≤_, _<_, _-_, _+_, _*_, _/_}
+use mathlib.Core.Path.{_≡_}
+use Prim.Native.Nat.{suc, _≤_, _-_, _*_, _/_}
 use native.Mathlib.Omega.{arith}
 use borrow.Author.Needs.{needs}
-use lib.ListN.{length, getD, take, drop}
+use lib.ListN.{length}
 use lib.Seq.{sets}
-use Rattle.tree.specs.Tree.{records}
 use Rattle.tree.specs.Resolve.{nodesFrom, isTagged, taggedUnder}
 use Rattle.tree.proofs.CheckLaws.{whole-from}
 use Rattle.tree.proofs.StepLaws.{record-short}

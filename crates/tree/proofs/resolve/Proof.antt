@@ -2,13 +2,6 @@
 use borrow.Author.Needs.{needs}
 use Rattle.tree.proofs.resolve.Statement.{statement}
 use Rattle.tree.proofs.resolve.Tie as tie
-use Rattle.tree.proofs.resolve.Reads as reads
-use Rattle.tree.proofs.resolve.Lts as lts
-use Rattle.forms.proofs.target_of.Reads as target-of-reads
-use Rattle.tree.proofs.give_from.Reads as give-from-reads
-use Rattle.tree.proofs.give_session.Reads as give-session-reads
-use mathlib.Core.Path.{_≡_, refl, ap, sym, _∙_}
-use native.Mathlib.Omega.{arith}
 use Rattle.tree.proofs.GiveLaws.{empty-answer, empty-list, no-answer, no-list, session-answer, session-list, root-answer, root-list, under-answer, under-list, beside-answer, beside-list}
 
 give-from-requires : tie.Need-give-from-requires

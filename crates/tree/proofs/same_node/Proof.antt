@@ -2,10 +2,6 @@
 use borrow.Author.Needs.{needs}
 use Rattle.tree.proofs.same_node.Statement.{statement}
 use Rattle.tree.proofs.same_node.Tie as tie
-use Rattle.tree.proofs.same_node.Reads as reads
-use Rattle.tree.proofs.same_node.Lts as lts
-use Rattle.text.proofs.pair.Reads as pair-reads
-use Rattle.text.proofs.same.Reads as same-reads
 use Rattle.tree.proofs.CheckLaws.{other-parent, other-number, other-length, by-tags}
 
 shared-slice-read-pair : tie.Need-shared-slice-read-pair

@@ -2,15 +2,7 @@
 use borrow.Author.Needs.{needs}
 use Rattle.tree.proofs.segment_len.Statement.{statement}
 use Rattle.tree.proofs.segment_len.Tie as tie
-use Rattle.tree.proofs.segment_len.Reads as reads
-use Rattle.tree.proofs.segment_len.Lts as lts
-use Rattle.tree.proofs.number.Reads as number-reads
-use Rattle.tree.proofs.tag_len.Reads as tag-len-reads
-use Rattle.tree.proofs.width.Reads as width-reads
-use Prim.Native.Nat.{_+_, _-_, _*_, _/_, _<_, _≤_}
-use mathlib.Core.Path.{_≡_, refl, ap, sym, _∙_}
 use native.Mathlib.Omega.{arith}
-use lib.ListN.{length}
 use Rattle.tree.proofs.UpLaws.{segment-length}
 
 tag-len-requires : tie.Need-tag-len-requires

@@ -1,14 +1,11 @@
 -- `tree::twin` meets its contract.
 use Rattle.tree.proofs.twin.Statement.{statement}
 use Rattle.tree.proofs.twin.Tie as tie
-use Rattle.tree.proofs.twin.Reads as reads
-use Rattle.tree.proofs.twin.Lts as lts
-use Rattle.tree.proofs.same_node.Reads as same-node-reads
-use mathlib.Core.Path.{_≡_, refl, ap, sym, _∙_}
-use Prim.Native.Nat.{ℕ, suc, _≤_, _<_, _-_, _+_, _*_, _/_}
+use mathlib.Core.Path.{_≡_, refl}
+use Prim.Native.Nat.{_≤_, _-_, _*_, _/_}
 use native.Mathlib.Omega.{arith}
 use borrow.Author.Needs.{needs}
-use lib.ListN.{length, getD, take, drop}
+use lib.ListN.{length, drop}
 use Rattle.tree.specs.Tree.{twinIn, twin}
 use Rattle.tree.proofs.CheckLaws.{whole-from, twin-start, twin-again, twin-stop, twin-end}
 

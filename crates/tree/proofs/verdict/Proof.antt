@@ -2,11 +2,6 @@
 use borrow.Author.Needs.{needs}
 use Rattle.tree.proofs.verdict.Statement.{statement}
 use Rattle.tree.proofs.verdict.Tie as tie
-use Rattle.tree.proofs.verdict.Reads as reads
-use Rattle.tree.proofs.verdict.Lts as lts
-use Rattle.tree.proofs.check.Reads as check-reads
-use mathlib.Core.Path.{_≡_, refl, ap, sym, _∙_}
-use native.Mathlib.Omega.{arith}
 use Rattle.tree.proofs.GiveLaws.{flawed-tree, flawed-node, fine-tree}
 
 check-requires : tie.Need-check-requires

@@ -1,12 +1,7 @@
 -- `tree::width` meets its contract.
 use Rattle.tree.proofs.width.Statement.{statement}
 use Rattle.tree.proofs.width.Tie as tie
-use Rattle.tree.proofs.width.Reads as reads
-use Rattle.tree.proofs.width.Lts as lts
-use Prim.Native.Nat.{_+_, _-_, _*_, _/_, _<_, _≤_}
-use mathlib.Core.Path.{_≡_, refl, ap, sym, _∙_}
 use native.Mathlib.Omega.{arith}
-use lib.ListN.{length}
 use borrow.Author.Tests.{lt-ltb, le-ltb}
 use Rattle.text.specs.Decimal.{width}
 

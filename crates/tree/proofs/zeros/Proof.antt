@@ -1,13 +1,11 @@
 -- `tree::zeros` meets its contract.
 use Rattle.tree.proofs.zeros.Statement.{statement}
 use Rattle.tree.proofs.zeros.Tie as tie
-use Rattle.tree.proofs.zeros.Reads as reads
-use Rattle.tree.proofs.zeros.Lts as lts
-use mathlib.Core.Path.{_≡_, refl, ap, sym, _∙_}
-use Prim.Native.Nat.{ℕ, suc, _≤_, _<_, _-_, _+_, _*_, _/_}
+use mathlib.Core.Path.{_≡_, refl}
+use Prim.Native.Nat.{_≤_, _-_}
 use native.Mathlib.Omega.{arith}
 use borrow.Author.Needs.{needs}
-use lib.ListN.{length, getD, take, drop}
+use lib.ListN.{length, drop}
 use Rattle.text.specs.Lists.{allOf}
 use Rattle.tree.specs.Tree.{isZero}
 use Rattle.tree.proofs.CheckLaws.{zeros-again, zeros-stop, zeros-end}
