@@ -1,4 +1,4 @@
 pub mod Demand3
-pub mod Joined
 pub mod Needed
 pub mod TextLaws
+pub mod ListLaws

@@ -3,3 +3,4 @@ pub mod Trust
 pub mod Lister
 pub mod Words
 pub mod Steps
+pub mod Listing

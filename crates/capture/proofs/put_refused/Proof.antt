@@ -1,0 +1,30 @@
+-- `capture::put_refused` meets its contract.
+use mathlib.Core.Path.{_≡_, refl, sym, ap, _∙_}
+use Prim.Native.Nat.{ℕ, suc, _+_, _-_, _≤_, _<_}
+use native.Mathlib.Omega.{arith}
+use native.Mathlib.Nat.{add-zero}
+use mathlib.Core.List.{List, []}
+use lib.ListN.{length, getD, take, drop}
+use lib.Seq.{sets}
+use borrow.Author.Needs.{needs}
+use Rattle.capture.proofs.ListLaws.{refusal-fills}
+use Rattle.capture.proofs.put_refused.Statement.{statement}
+use Rattle.capture.proofs.put_refused.Tie as tie
+use Rattle.capture.proofs.put_refused.Reads as reads
+use Rattle.capture.proofs.put_refused.Lts as lts
+use Rattle.reading.proofs.put_refusal.Reads as put-refusal-reads
+
+cast-put-refusal : tie.Need-cast-put-refusal
+cast-put-refusal c = search needs
+
+put-refusal-requires : tie.Need-put-refusal-requires
+put-refusal-requires c κs = search needs
+
+same-length : tie.Need-same-length
+same-length c = search needs
+
+returns : tie.Need-returns
+returns c = let a = c .before .before .before .before .before .args in (refl, c .before .before .put-refusal .ensures .1 ∙ refusal-fills (a .room .now) (a .number) (a .place) (c .before .before .before .before .before .pre .0))
+
+pub put-refused-spec : {M : Type 1} → statement M
+put-refused-spec = tie.close (tie.spec cast-put-refusal put-refusal-requires same-length returns)

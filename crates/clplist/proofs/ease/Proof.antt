@@ -1,0 +1,34 @@
+-- `clplist::ease` meets its contract.
+use mathlib.Core.Path.{_≡_, refl, sym, ap, _∙_}
+use Prim.Native.Nat.{ℕ, suc, _+_, _-_, _≤_, _<_}
+use native.Mathlib.Omega.{arith}
+use native.Mathlib.Nat.{add-zero}
+use mathlib.Core.List.{List, []}
+use lib.ListN.{length, getD, take, drop}
+use lib.Seq.{sets}
+use borrow.Author.Needs.{needs}
+use lib.Seq.{length-take-le}
+use Rattle.clplist.proofs.ease.Statement.{statement}
+use Rattle.clplist.proofs.ease.Tie as tie
+use Rattle.clplist.proofs.ease.Reads as reads
+use Rattle.clplist.proofs.ease.Lts as lts
+use Rattle.io.proofs.write_all.Reads as write-all-reads
+
+sub-if1 : tie.Need-sub-if1
+sub-if1 c = search needs
+
+returns : tie.Need-returns
+returns c = search needs
+
+slice-aggregate-write-all : tie.Need-slice-aggregate-write-all
+slice-aggregate-write-all c = sym (length-take-le _ _ (omega arith))
+
+write-all-requires : tie.Need-write-all-requires
+write-all-requires c κs = search needs
+
+returns-2 : tie.Need-returns-2
+returns-2 c = search needs
+
+pub ease-spec : {M : Type 1} → statement M
+ease-spec =
+    tie.close (tie.spec sub-if1 returns slice-aggregate-write-all write-all-requires returns-2)
