@@ -10,3 +10,7 @@ pub mod Same
 pub mod TextWriting
 pub mod TermWriting
 pub mod WriteLaws
+pub mod LineLaws
+pub mod CanonicalLaws
+pub mod Examples
+pub mod OnlyCanonical

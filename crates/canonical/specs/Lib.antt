@@ -1,2 +1,3 @@
 pub mod Canonical
 pub mod Written
+pub mod Lines

@@ -125,13 +125,9 @@ gap first = cond first [] (32 ∷ [])
 unfoldable pub restOf : Bool → List Item → List ℕ
 restOf first is = raws (cond first (between (bare 32) (map writeItem is)) (each (bare 32) (map writeItem is)))
 
-abbrev pub isRead : Reading → Bool
-isRead (refusal n p) = false
-isRead (read ps) = true
-
-abbrev pub itemsIn : Reading → List Item
-itemsIn (refusal n p) = []
-itemsIn (read ps) = itemsOf ps
+abbrev pub writtenIn : Bool → Reading → List ℕ
+writtenIn first (refusal n p) = []
+writtenIn first (read ps) = restOf first (itemsOf ps)
 
 -- how many bytes a reading's writing has, w bytes before it, or its refusal
 abbrev pub totalFrom : ℕ → Bool → Reading → Answer

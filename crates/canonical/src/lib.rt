@@ -1,16 +1,24 @@
 // Canonical writing of a line.
+use reading::Cursor;
+use reading::Given;
 use reading::Shown;
 use terms::Mode;
+use text::Answer;
+use text::Verdict;
 use words::Kind;
 ghost use mathlib.Core.Path.{_≡_};
 ghost use mathlib.Core.List.{[], _∷_};
+ghost use mathlib.Core.Bool.{true};
 ghost use Prim.Native.Nat.{_+_, _*_, _≤_};
 ghost use lib.ListN.{length, drop};
 ghost use lib.Seq.{sets};
 ghost use Rattle.terms.specs.Signs.{raws};
 ghost use Rattle.words.specs.Words.{verbName, optionName};
-ghost use Rattle.canonical.specs.Canonical.{writeText};
-ghost use Rattle.canonical.specs.Written.{graves, graved, gravedAll, quotes, isPlain, textIn, textsIn, isParting, textLen, leadsDash, dashGrave, placeIn, slash, slashed, argumentIn, written, gap};
+ghost use Rattle.reading.specs.Reading.{readingOf};
+ghost use Rattle.reading.specs.Cursor.{left, start};
+ghost use Rattle.reading.specs.Shown.{verdictIn};
+ghost use Rattle.canonical.specs.Canonical.{writeText, writingAnswer, writingRoom};
+ghost use Rattle.canonical.specs.Written.{graves, graved, gravedAll, quotes, isPlain, textIn, textsIn, isParting, textLen, leadsDash, dashGrave, placeIn, slash, slashed, argumentIn, written, gap, writtenIn, totalFrom};
 
 // Every writer tells where its text ends. What would stand past the room's end is not written, so that a first pass can count in no room.
 
@@ -285,4 +293,62 @@ fn put_gap(out: &mut [u8], at: usize, first: bool) -> usize
     }
     text::put(out, at, b' ');
     at + 1
+}
+
+// Term by term from a line's first one on: the line's refusal, or how many bytes were written.
+fn put_line(line: &[u8], out: &mut [u8]) -> Answer
+    requires { ⌜ length (now line) ≤ 1024 ⌝ }
+    ensures { λ r. ⌜ (r ≡ totalFrom 0 true (left (now (line .entry)) start)) × (verdictIn (left (now (line .entry)) start) ≡ Verdict.Fine → now (out .exit) ≡ sets (now (out .entry)) 0 (writtenIn true (left (now (line .entry)) start))) ⌝ }
+{
+    let mut c = Cursor::begin();
+    let mut w: usize = 0;
+    let mut first = true;
+    loop {
+        let s = c.next(line);
+        let g = s.given;
+        match g {
+            Given::End => return Answer::Wrote(w),
+            Given::Refused { number, place } => return Answer::Refused { number, place },
+            Given::Part { item, start, len } => {
+                let v = put_gap(out, w, first);
+                w = put_term(out, v, item, &line[start..start + len]);
+                first = false;
+                c = s.next;
+            }
+        }
+    }
+}
+
+// A line's refusal, or how many bytes its writing has: a first walk, which writes nowhere.
+fn counted(line: &[u8]) -> Answer
+    ensures { λ r. ⌜ r ≡ totalFrom 0 true (readingOf (now (line .entry))) ⌝ }
+{
+    let v = terms::lexical(line);
+    match v {
+        Verdict::Flawed { number, place } => Answer::Refused { number, place },
+        Verdict::Fine => {
+            let mut nowhere = [0u8; 0];
+            put_line(line, &mut nowhere)
+        }
+    }
+}
+
+// A line's canonical writing, at the start of the room; tells how many bytes it has. A refusal writes nothing.
+pub fn canonical(line: &[u8], out: &mut [u8]) -> Answer
+    ensures { λ r. ⌜ (r ≡ writingAnswer (length (now (out .entry))) (readingOf (now (line .entry)))) × (now (out .exit) ≡ writingRoom (now (out .entry)) (readingOf (now (line .entry)))) ⌝ }
+{
+    let a = counted(line);
+    match a {
+        Answer::Refused { number, place } => Answer::Refused { number, place },
+        Answer::Wrote(n) => {
+            if out.len() < n {
+                return Answer::Refused {
+                    number: 19,
+                    place: 0,
+                };
+            }
+            put_line(line, out);
+            Answer::Wrote(n)
+        }
+    }
 }
