@@ -39,10 +39,10 @@ words-len-requires : tie.Need-words-len-requires
 words-len-requires c κs = search needs
 
 returns-3 : tie.Need-returns-3
-returns-3 c = name-long (c .before .before .before .before .before .before .before .before .before .args .s .now) (c .before .before .before .before .before .before .before .before .before .args .n) (λ z. c .before .before .before .before .before .before .if1 .left (c .before .before .before .before .before .before .before .end-of .ensures ∙ z)) (sym (c .before .before .before .before .is-letter .ensures) ∙ not-false _ (c .before .before .before .if2 .left)) (c .before .words-len .result) (c .before .words-len .ensures ∙ ap (runLen isWord) (taken-part (c .before .before .before .before .before .before .before .before .before .args .s .now) (c .before .before .before .before .before .before .before .before .before .args .n) (c .before .before .before .before .before .before .before .end-of .result) (c .before .before .before .before .before .before .before .end-of .ensures))) (c .if3 .taken)
+returns-3 c = name-long (c .before .before .before .before .before .before .before .before .before .args .s .now) (c .before .before .before .before .before .before .before .before .before .args .n) (λ z. c .before .before .before .before .before .before .if1 .left (c .before .before .before .before .before .before .before .end-of .ensures ∙ z)) (sym (c .before .before .before .before .is-letter .ensures) ∙ not-false _ (c .before .before .before .if2 .left)) (c .before .words-len .result) (c .before .words-len .ensures ∙ ap (runLen isWord) (taken-part (c .before .before .before .before .before .before .before .before .before .args .s .now) (c .before .before .before .before .before .before .before .before .before .args .n) (c .before .before .before .before .before .before .before .end-of .result) (c .before .before .before .before .before .before .before .end-of .ensures))) (omega arith)
 
 returns-4 : tie.Need-returns-4
-returns-4 c = name-run (c .before .before .before .before .before .before .before .before .before .args .s .now) (c .before .before .before .before .before .before .before .before .before .args .n) (λ z. c .before .before .before .before .before .before .if1 .left (c .before .before .before .before .before .before .before .end-of .ensures ∙ z)) (sym (c .before .before .before .before .is-letter .ensures) ∙ not-false _ (c .before .before .before .if2 .left)) (c .before .words-len .result) (c .before .words-len .ensures ∙ ap (runLen isWord) (taken-part (c .before .before .before .before .before .before .before .before .before .args .s .now) (c .before .before .before .before .before .before .before .before .before .args .n) (c .before .before .before .before .before .before .before .end-of .result) (c .before .before .before .before .before .before .before .end-of .ensures))) (c .if3 .left)
+returns-4 c = name-run (c .before .before .before .before .before .before .before .before .before .args .s .now) (c .before .before .before .before .before .before .before .before .before .args .n) (λ z. c .before .before .before .before .before .before .if1 .left (c .before .before .before .before .before .before .before .end-of .ensures ∙ z)) (sym (c .before .before .before .before .is-letter .ensures) ∙ not-false _ (c .before .before .before .if2 .left)) (c .before .words-len .result) (c .before .words-len .ensures ∙ ap (runLen isWord) (taken-part (c .before .before .before .before .before .before .before .before .before .args .s .now) (c .before .before .before .before .before .before .before .before .before .args .n) (c .before .before .before .before .before .before .before .end-of .result) (c .before .before .before .before .before .before .before .end-of .ensures))) (omega arith)
 
 pub name-len-spec : {M : Type 1} → statement M
 name-len-spec =

@@ -50,10 +50,10 @@ add-t15 : tie.Need-add-t15 Inv-loop μ-loop
 add-t15 c = search needs
 
 returns : tie.Need-returns Inv-loop μ-loop
-returns c = let l = c .before .before .before .before .before .before .before .loop in let t = c .before .before .before .before .before .before .before .before .before .args .t .now in let n = c .before .before .before .before .before .segment-len in sym (path-ends (c .before .before .before .before .before .before .before .before .before .args .rooted) (l .k) t (l .at) (n .result) (l .inv .0) (n .ensures) (c .before .before .before .piece-of .result) (c .before .before .before .piece-of .ensures) (c .before .before .if1 .taken) (c .before .before .before .before .before .before .loop-test .taken) (sym (c .before .is-last .ensures) ∙ c .if2 .taken)) ∙ l .inv .1 ∙ path-from (c .before .before .before .before .before .before .before .before .before .args .rooted) (drop (c .before .before .before .before .before .before .before .before .before .args .from) t)
+returns c = let l = c .before .before .before .before .before .before .before .loop in let t = c .before .before .before .before .before .before .before .before .before .args .t .now in let n = c .before .before .before .before .before .segment-len in sym (path-ends (c .before .before .before .before .before .before .before .before .before .args .rooted) (l .k) t (l .at) (n .result) (l .inv .0) (n .ensures) (c .before .before .before .piece-of .result) (c .before .before .before .piece-of .ensures) (c .before .before .if1 .taken) (omega arith) (sym (c .before .is-last .ensures) ∙ c .if2 .taken)) ∙ l .inv .1 ∙ path-from (c .before .before .before .before .before .before .before .before .before .args .rooted) (drop (c .before .before .before .before .before .before .before .before .before .args .from) t)
 
 returns-2 : tie.Need-returns-2 Inv-loop μ-loop
-returns-2 c = let l = c .before .before .before .before .before .before .before .loop in let t = c .before .before .before .before .before .before .before .before .before .args .t .now in let n = c .before .before .before .before .before .segment-len in sym (path-bad (c .before .before .before .before .before .before .before .before .before .args .rooted) (l .k) t (l .at) (n .result) (l .inv .0) (n .ensures) (c .before .before .before .piece-of .result) (c .before .before .before .piece-of .ensures) (c .before .before .if1 .taken) (c .before .before .before .before .before .before .loop-test .taken) (sym (c .before .is-last .ensures) ∙ c .if2 .left)) ∙ l .inv .1 ∙ path-from (c .before .before .before .before .before .before .before .before .before .args .rooted) (drop (c .before .before .before .before .before .before .before .before .before .args .from) t)
+returns-2 c = let l = c .before .before .before .before .before .before .before .loop in let t = c .before .before .before .before .before .before .before .before .before .args .t .now in let n = c .before .before .before .before .before .segment-len in sym (path-bad (c .before .before .before .before .before .before .before .before .before .args .rooted) (l .k) t (l .at) (n .result) (l .inv .0) (n .ensures) (c .before .before .before .piece-of .result) (c .before .before .before .piece-of .ensures) (c .before .before .if1 .taken) (omega arith) (sym (c .before .is-last .ensures) ∙ c .if2 .left)) ∙ l .inv .1 ∙ path-from (c .before .before .before .before .before .before .before .before .before .args .rooted) (drop (c .before .before .before .before .before .before .before .before .before .args .from) t)
 
 is-inner-requires : tie.Need-is-inner-requires Inv-loop μ-loop
 is-inner-requires c κs = search needs
@@ -74,7 +74,7 @@ loop-again : tie.Need-loop-again Inv-loop μ-loop
 loop-again c = let l = c .before .before .before .before .before .before .before .loop in let t = c .before .before .before .before .before .before .before .before .before .args .t .now in let n = c .before .before .before .before .before .segment-len in let w = segment-within t (l .at) (n .result) (n .ensures) (l .inv .0) in (omega (arith, c .before .before .if1 .left), path-more (c .before .before .before .before .before .before .before .before .before .args .rooted) (l .k) t (l .at) (n .result) (l .inv .0) (n .ensures) (c .before .before .before .piece-of .result) (c .before .before .before .piece-of .ensures) (omega (arith, c .before .before .if1 .left)) (sym (c .before .is-inner .ensures) ∙ not-false _ (c .if3 .left)) ∙ l .inv .1)
 
 returns-4 : tie.Need-returns-4 Inv-loop μ-loop
-returns-4 c = let l = c .before .loop in let t = c .before .before .before .args .t .now in sym (path-full (c .before .before .before .args .rooted) (l .k) (drop (l .at) t) (c .loop-test .left)) ∙ l .inv .1 ∙ path-from (c .before .before .before .args .rooted) (drop (c .before .before .before .args .from) t)
+returns-4 c = let l = c .before .loop in let t = c .before .before .before .args .t .now in sym (path-full (c .before .before .before .args .rooted) (l .k) (drop (l .at) t) (omega arith)) ∙ l .inv .1 ∙ path-from (c .before .before .before .args .rooted) (drop (c .before .before .before .args .from) t)
 
 pub path-at-spec : {M : Type 1} → statement M
 path-at-spec =
