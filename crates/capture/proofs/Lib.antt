@@ -2,3 +2,4 @@ pub mod Demand3
 pub mod Needed
 pub mod TextLaws
 pub mod ListLaws
+pub mod Only

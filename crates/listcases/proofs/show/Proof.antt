@@ -1,0 +1,69 @@
+-- `listcases::show` meets its contract.
+use mathlib.Core.Path.{_≡_, refl, sym, ap, _∙_}
+use Prim.Native.Nat.{ℕ, suc, _+_, _-_, _≤_, _<_}
+use native.Mathlib.Omega.{arith}
+use native.Mathlib.Nat.{add-zero}
+use mathlib.Core.List.{List, []}
+use lib.ListN.{length, getD, take, drop}
+use lib.Seq.{sets}
+use borrow.Author.Needs.{needs}
+use lib.Seq.{length-take-le}
+use Rattle.listcases.proofs.show.Statement.{statement}
+use Rattle.listcases.proofs.show.Tie as tie
+use Rattle.listcases.proofs.show.Reads as reads
+use Rattle.listcases.proofs.show.Lts as lts
+use Rattle.io.proofs.write_all.Reads as write-all-reads
+use Rattle.listcases.proofs.print.Reads as print-reads
+
+enum-told : tie.Need-enum-told
+enum-told c = search needs
+
+enum-known-s : tie.Need-enum-known-s
+enum-known-s c = search needs
+
+returns : tie.Need-returns
+returns c = search needs
+
+slice-aggregate-print : tie.Need-slice-aggregate-print
+slice-aggregate-print c = sym (length-take-le _ _ (omega arith))
+
+print-requires : tie.Need-print-requires
+print-requires c κs = search needs
+
+enum-told-2 : tie.Need-enum-told-2
+enum-told-2 c = search needs
+
+slice-aggregate-write-all : tie.Need-slice-aggregate-write-all
+slice-aggregate-write-all c = search needs
+
+write-all-requires : tie.Need-write-all-requires
+write-all-requires c κs = search needs
+
+returns-2 : tie.Need-returns-2
+returns-2 c = search needs
+
+same-length : tie.Need-same-length
+same-length c = search needs
+
+returns-3 : tie.Need-returns-3
+returns-3 c = search needs
+
+returns-4 : tie.Need-returns-4
+returns-4 c = search needs
+
+pub show-spec : {M : Type 1} → statement M
+show-spec =
+    tie.close
+    (tie.spec
+    enum-told
+    enum-known-s
+    returns
+    slice-aggregate-print
+    print-requires
+    enum-told-2
+    slice-aggregate-write-all
+    write-all-requires
+    returns-2
+    same-length
+    returns-3
+    returns-4)
