@@ -2,11 +2,11 @@
 use Prim.Native.Nat.{ℕ, _+_, _%_, _<_, _≤_}
 use mathlib.Core.Path.{_≡_, refl, sym, ap, _∙_}
 use mathlib.Core.List.{List}
-use mathlib.Core.Bool.{Bool, true, false, cond, _&&_}
+use mathlib.Core.Bool.{Bool, true, false, cond, _&&_, true≢false}
 use native.Mathlib.Omega.{arith}
 use borrow.Author.Tests.{lt-ltb, le-ltb, ltb-true, ltb-false, eqb-true}
 use lib.ListN.{length}
-use lib.Dec.{eqb, ltb}
+use lib.Dec.{eqb, ltb, leb}
 use Rattle.joiner.specs.declared.Joiner.{Joiner}
 use Rattle.joiner.specs.declared.Joined.{Joined}
 use Rattle.joiner.specs.declared.End.{End}
@@ -15,11 +15,15 @@ use Rattle.joiner.specs.Join.{Ran, joinOf, endOf}
 use Rattle.joiner.proofs.Reach.{to-fine}
 use Rattle.joiner.proofs.Past.{refused-whole, goes-on}
 use Rattle.reading.specs.declared.Span.{Span}
+use Rattle.capture.specs.declared.Stands.{Stands}
+use Rattle.capture.specs.declared.Listed.{Listed}
+use Rattle.capture.specs.Lister as lister
+use Rattle.capture.specs.Lister.{listOf, endStands, endRoom}
 use Rattle.clp.specs.declared.ClpAnswer.{ClpAnswer}
 use Rattle.clp.specs.declared.ClpJoined.{ClpJoined}
 use Rattle.clp.specs.declared.ClpTerm.{ClpTerm}
 use Rattle.clp.specs.State.{mark, numberOf, stateOf}
-use Rattle.clp.specs.Face.{told, outcomeOf, with, noCall, joinedOf, joinFace, joinBuffer, endAnswer, endFace, term, partOf}
+use Rattle.clp.specs.Face.{told, none64, outcomeOf, with, noCall, joinedOf, joinFace, joinBuffer, endAnswer, endFace, term, partOf, standsOf, listedOf, listFace, listBuffer, listRoom, listEndFace, listEndRoom}
 use Rattle.clp.proofs.StateLaws.{led-back, number-back}
 
 -- ---- parts of an answer
@@ -56,6 +60,27 @@ module _ (n : ℕ) (h : 16383 < n) where
   unfolding joinBuffer
   none-buffer b p = rw (le-ltb n 16384 (omega arith))
 
+  module _ (b p room : List ℕ) where
+    pub none-list : noCall n ≡ listFace n b p room
+    unfolding listFace
+    none-list = rw (le-ltb n 16384 (omega arith))
+
+    pub none-list-buffer : b ≡ listBuffer n b p room
+    unfolding listBuffer
+    none-list-buffer = rw (le-ltb n 16384 (omega arith))
+
+    pub none-list-room : room ≡ listRoom n b p room
+    unfolding listRoom
+    none-list-room = rw (le-ltb n 16384 (omega arith))
+
+  pub none-list-end : (k : ℕ) → told 19 0 ≡ listEndFace n k
+  unfolding listEndFace
+  none-list-end k = rw (le-ltb n 16384 (omega arith))
+
+  pub none-end-room : (room : List ℕ) → room ≡ listEndRoom n room
+  unfolding listEndRoom
+  none-end-room room = rw (le-ltb n 16384 (omega arith))
+
 -- ---- a smaller one
 
 module _ (n : ℕ) (h : n ≤ 16383) (s : Joiner) (i : s ≡ stateOf n) where
@@ -74,6 +99,30 @@ module _ (n : ℕ) (h : n ≤ 16383) (s : Joiner) (i : s ≡ stateOf n) where
     pub buffer-told : (c : List ℕ) → c ≡ joinOf s b p .buffer → c ≡ joinBuffer n b p
     unfolding joinBuffer
     buffer-told c x = rw (lt-ltb n 16384 (omega arith)) (x ∙ ap (λ (s : Joiner). joinOf s b p .buffer) i)
+
+  module _ (b p room : List ℕ) where
+    pub list-told : (l : Listed) (a : ClpAnswer) (r : ClpJoined) → l ≡ listOf s b p room .answer → a ≡ standsOf none64 (l .stands)
+        → r ≡ with a (l .used) (numberOf (l .state)) → r ≡ listFace n b p room
+    unfolding listFace
+    list-told l a r x y z =
+        rw (lt-ltb n 16384 (omega arith))
+        (z ∙ ap (λ (a : ClpAnswer). with a (l .used) (numberOf (l .state))) y ∙ ap listedOf (x ∙ ap (λ (s : Joiner). listOf s b p room .answer) i))
+
+    pub list-buffer-told : (c : List ℕ) → c ≡ listOf s b p room .buffer → c ≡ listBuffer n b p room
+    unfolding listBuffer
+    list-buffer-told c x = rw (lt-ltb n 16384 (omega arith)) (x ∙ ap (λ (s : Joiner). listOf s b p room .buffer) i)
+
+    pub list-room-told : (c : List ℕ) → c ≡ listOf s b p room .room → c ≡ listRoom n b p room
+    unfolding listRoom
+    list-room-told c x = rw (lt-ltb n 16384 (omega arith)) (x ∙ ap (λ (s : Joiner). listOf s b p room .room) i)
+
+  pub list-end-told : (k : ℕ) (w : Stands) (r : ClpAnswer) → w ≡ endStands k (endOf s) → r ≡ standsOf 0 w → r ≡ listEndFace n k
+  unfolding listEndFace
+  list-end-told k w r x y = rw (lt-ltb n 16384 (omega arith)) (y ∙ ap (standsOf 0) (x ∙ ap (λ (s : Joiner). endStands k (endOf s)) i))
+
+  pub end-room-told : (room c : List ℕ) → c ≡ endRoom room (endOf s) → c ≡ listEndRoom n room
+  unfolding listEndRoom
+  end-room-told room c x = rw (lt-ltb n 16384 (omega arith)) (x ∙ ap (λ (s : Joiner). endRoom room (endOf s)) i)
 
 -- the state that joining leaves has a number: it is a capture's, or the one that was given
 state-low : (n : ℕ) → stateOf n .held < 2048
@@ -95,6 +144,20 @@ join-low n s b p j i x = go (eqb (length b) 1024) (reachable s) refl refl
     go true true e k =
         omega
         (arith, ap (λ (j : Joined). j .state .held) x, to-fine (joinOf s b p .answer .state) (goes-on s b p (eqb-true (length b) 1024 e) k .1) .within)
+
+pub list-low : (n : ℕ) (s : Joiner) (b p room : List ℕ) (l : Listed) → s ≡ stateOf n → l ≡ listOf s b p room .answer → l .state .held < 2048
+unfolding listOf
+list-low n s b p room l i x = go (leb 399 (length room)) (lister.fit s b) x
+  where
+    low : l .state .held ≡ s .held → l .state .held < 2048
+    low e = omega (arith, e, state-low n, ap (λ (s : Joiner). s .held) i)
+
+    go : (t u : Bool)
+        → l ≡ cond t (cond u (lister.joined (joinOf s b p) room) (lister.refused19 s b room)) (lister.refused19 s b room) .answer
+        → l .state .held < 2048
+    go false u e = low (ap (λ (l : Listed). l .state .held) e)
+    go true false e = low (ap (λ (l : Listed). l .state .held) e)
+    go true true e = omega (arith, ap (λ (l : Listed). l .state .held) e, join-low n s b p (joinOf s b p .answer) i refl)
 
 -- ---- A NUMBER THAT IS NO STATE'S: 19, nothing used, the same number, the buffer unchanged
 
@@ -130,3 +193,23 @@ no-state n b p never = go (ltb n 16384) (reachable (stateOf n)) refl refl
     go true false e f =
         let r = unfit n b p (rw f (both (eqb (length b) 1024))) in
         (r .0, r .1, unfit-end n e f)
+
+-- the same of a lister, and of a room below 399 bytes
+pub unfit-list : (n : ℕ) (b p room : List ℕ) → leb 399 (length room) && lister.fit (stateOf n) b ≡ false
+    → (listFace n b p room ≡ noCall n) × (listBuffer n b p room ≡ b) × (listRoom n b p room ≡ room)
+unfolding listFace listBuffer listRoom listOf
+unfit-list n b p room e = go (ltb n 16384) (leb 399 (length room)) (lister.fit (stateOf n) b) refl e
+  where
+    told-of : Bool → Bool → lister.Told
+    told-of t u =
+        cond t (cond u (lister.joined (joinOf (stateOf n) b p) room) (lister.refused19 (stateOf n) b room)) (lister.refused19 (stateOf n) b room)
+
+    refused : ltb n 16384 ≡ true → listedOf (lister.refused19 (stateOf n) b room .answer) ≡ noCall n
+    refused f = ap noCall (number-back n (ltb-true n 16384 f))
+
+    go : (v t u : Bool) → ltb n 16384 ≡ v → t && u ≡ false
+        → (cond v (listedOf (told-of t u .answer)) (noCall n) ≡ noCall n) × (cond v (told-of t u .buffer) b ≡ b) × (cond v (told-of t u .room) room ≡ room)
+    go false t u f g = (refl, refl, refl)
+    go true false u f g = (refused f, refl, refl)
+    go true true false f g = (refused f, refl, refl)
+    go true true true f g = absurd (true≢false g)

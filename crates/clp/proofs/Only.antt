@@ -24,12 +24,24 @@ use Rattle.clp.proofs.clp_full_path.Reads as clp-full-path-reads
 use Rattle.clp.proofs.clp_resolve as clp-resolve-fn
 use Rattle.clp.proofs.clp_resolve.Kinds as clp-resolve-kinds
 use Rattle.clp.proofs.clp_resolve.Reads as clp-resolve-reads
+use Rattle.clp.proofs.clp_records_text as clp-records-text-fn
+use Rattle.clp.proofs.clp_records_text.Kinds as clp-records-text-kinds
+use Rattle.clp.proofs.clp_records_text.Reads as clp-records-text-reads
 use Rattle.clp.proofs.clp_read as clp-read-fn
 use Rattle.clp.proofs.clp_read.Kinds as clp-read-kinds
 use Rattle.clp.proofs.clp_read.Reads as clp-read-reads
 use Rattle.clp.proofs.clp_target as clp-target-fn
 use Rattle.clp.proofs.clp_target.Kinds as clp-target-kinds
 use Rattle.clp.proofs.clp_target.Reads as clp-target-reads
+use Rattle.clp.proofs.clp_canonical as clp-canonical-fn
+use Rattle.clp.proofs.clp_canonical.Kinds as clp-canonical-kinds
+use Rattle.clp.proofs.clp_canonical.Reads as clp-canonical-reads
+use Rattle.clp.proofs.clp_list as clp-list-fn
+use Rattle.clp.proofs.clp_list.Kinds as clp-list-kinds
+use Rattle.clp.proofs.clp_list.Reads as clp-list-reads
+use Rattle.clp.proofs.clp_list_end as clp-list-end-fn
+use Rattle.clp.proofs.clp_list_end.Kinds as clp-list-end-kinds
+use Rattle.clp.proofs.clp_list_end.Reads as clp-list-end-reads
 
 pub clp-join-only :
     (κs : Lifetimes.Lfts 2) (a : World.ArgsD clp-join-fn.signature κs)
@@ -79,6 +91,14 @@ pub clp-resolve-only :
     → (r ≡ r′) × (now (s .1 .1 .1 .0) ≡ now (s′ .1 .1 .1 .0))
 clp-resolve-only κs a r r′ s s′ p q = (p .0 ∙ sym (q .0), p .1 ∙ sym (q .1))
 
+pub clp-records-text-only :
+    (κs : Lifetimes.Lfts 2) (a : World.ArgsD clp-records-text-fn.signature κs)
+    (r r′ : World.ResD clp-records-text-fn.signature κs)
+    (s s′ : Clauses.AtExit (Kinds.endedOf 2 clp-records-text-kinds.ps clp-records-text-kinds.r) κs)
+    → clp-records-text-reads.Post κs a r s → clp-records-text-reads.Post κs a r′ s′
+    → (r ≡ r′) × (now (s .1 .0) ≡ now (s′ .1 .0))
+clp-records-text-only κs a r r′ s s′ p q = (p .0 ∙ sym (q .0), p .1 ∙ sym (q .1))
+
 pub clp-read-only :
     (κs : Lifetimes.Lfts 2) (a : World.ArgsD clp-read-fn.signature κs)
     (r r′ : World.ResD clp-read-fn.signature κs)
@@ -94,3 +114,27 @@ pub clp-target-only :
     → clp-target-reads.Post κs a r s → clp-target-reads.Post κs a r′ s′
     → r ≡ r′
 clp-target-only κs a r r′ s s′ p q = p ∙ sym q
+
+pub clp-canonical-only :
+    (κs : Lifetimes.Lfts 2) (a : World.ArgsD clp-canonical-fn.signature κs)
+    (r r′ : World.ResD clp-canonical-fn.signature κs)
+    (s s′ : Clauses.AtExit (Kinds.endedOf 2 clp-canonical-kinds.ps clp-canonical-kinds.r) κs)
+    → clp-canonical-reads.Post κs a r s → clp-canonical-reads.Post κs a r′ s′
+    → (r ≡ r′) × (now (s .1 .0) ≡ now (s′ .1 .0))
+clp-canonical-only κs a r r′ s s′ p q = (p .0 ∙ sym (q .0), p .1 ∙ sym (q .1))
+
+pub clp-list-only :
+    (κs : Lifetimes.Lfts 3) (a : World.ArgsD clp-list-fn.signature κs)
+    (r r′ : World.ResD clp-list-fn.signature κs)
+    (s s′ : Clauses.AtExit (Kinds.endedOf 3 clp-list-kinds.ps clp-list-kinds.r) κs)
+    → clp-list-reads.Post κs a r s → clp-list-reads.Post κs a r′ s′
+    → (r ≡ r′) × (now (s .1 .0) ≡ now (s′ .1 .0)) × (now (s .1 .1 .1 .0) ≡ now (s′ .1 .1 .1 .0))
+clp-list-only κs a r r′ s s′ p q = (p .0 ∙ sym (q .0), p .1 .0 ∙ sym (q .1 .0), p .1 .1 ∙ sym (q .1 .1))
+
+pub clp-list-end-only :
+    (κs : Lifetimes.Lfts 1) (a : World.ArgsD clp-list-end-fn.signature κs)
+    (r r′ : World.ResD clp-list-end-fn.signature κs)
+    (s s′ : Clauses.AtExit (Kinds.endedOf 1 clp-list-end-kinds.ps clp-list-end-kinds.r) κs)
+    → clp-list-end-reads.Post κs a r s → clp-list-end-reads.Post κs a r′ s′
+    → (r ≡ r′) × (now (s .1 .0) ≡ now (s′ .1 .0))
+clp-list-end-only κs a r r′ s s′ p q = (p .0 ∙ sym (q .0), p .1 ∙ sym (q .1))

@@ -2,6 +2,7 @@
 use Prim.Native.Nat.{ℕ}
 use mathlib.Core.List.{List}
 use mathlib.Core.Bool.{cond}
+use lib.ListN.{length}
 use lib.Dec.{ltb}
 use Rattle.text.specs.declared.Answer.{Answer}
 use Rattle.text.specs.declared.Answer.the-variants as answer
@@ -19,6 +20,10 @@ use Rattle.tree.specs.declared.Checked.the-variants as checked
 use Rattle.tree.specs.declared.Resolved.{Resolved}
 use Rattle.tree.specs.declared.Resolved.the-variants as resolved
 use Rattle.reading.specs.declared.Span.{Span}
+use Rattle.capture.specs.declared.Stands.{Stands}
+use Rattle.capture.specs.declared.Stands.the-variants as stands
+use Rattle.capture.specs.declared.Listed.{Listed}
+use Rattle.capture.specs.Lister.{listOf, endStands, endRoom}
 use Rattle.clp.specs.declared.ClpAnswer.{ClpAnswer}
 use Rattle.clp.specs.declared.ClpJoined.{ClpJoined}
 use Rattle.clp.specs.declared.ClpTerm.{ClpTerm}
@@ -98,3 +103,30 @@ resolvedOf (resolved.Refused n p) = told n p
 
 abbrev pub partOf : Span → ClpPart
 partOf s = record { position = s .at; length = s .len }
+
+-- ---- a lister: how many bytes of records stand in the room, or the value that is no length
+
+abbrev pub standsOf : ℕ → Stands → ClpAnswer
+standsOf none stands.Nothing = told 0 none
+standsOf none (stands.Records n) = told 0 n
+standsOf none (stands.Refused n p) = told n p
+
+abbrev pub listedOf : Listed → ClpJoined
+listedOf l = with (standsOf none64 (l .stands)) (l .used) (numberOf (l .state))
+
+unfoldable pub listFace : ℕ → List ℕ → List ℕ → List ℕ → ClpJoined
+listFace n buffer part room = cond (ltb n 16384) (listedOf (listOf (stateOf n) buffer part room .answer)) (noCall n)
+
+unfoldable pub listBuffer : ℕ → List ℕ → List ℕ → List ℕ → List ℕ
+listBuffer n buffer part room = cond (ltb n 16384) (listOf (stateOf n) buffer part room .buffer) buffer
+
+unfoldable pub listRoom : ℕ → List ℕ → List ℕ → List ℕ → List ℕ
+listRoom n buffer part room = cond (ltb n 16384) (listOf (stateOf n) buffer part room .room) room
+
+-- at the end: 1, a cut's record, or 0
+
+unfoldable pub listEndFace : ℕ → ℕ → ClpAnswer
+listEndFace n room = cond (ltb n 16384) (standsOf 0 (endStands room (endOf (stateOf n)))) (told 19 0)
+
+unfoldable pub listEndRoom : ℕ → List ℕ → List ℕ
+listEndRoom n room = cond (ltb n 16384) (endRoom room (endOf (stateOf n))) room

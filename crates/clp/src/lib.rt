@@ -1,4 +1,5 @@
 // The C face: exported functions on numbers and slices, as include/clp.h has them, each thin over a proved crate.
+use capture::Stands;
 use carried::Yielded;
 use carried::yield_at;
 use joiner::End;
@@ -17,8 +18,10 @@ ghost use Rattle.tree.specs.Path.{pathAnswer, pathRoom};
 ghost use Rattle.tree.specs.Resolve.{resolveOf, resolveList};
 ghost use Rattle.reading.specs.Reading.{readingOf};
 ghost use Rattle.reading.specs.Records.{answerIn, roomIn, targetIn};
+ghost use Rattle.capture.specs.Words.{textOf, textAnswer, textRoom};
+ghost use Rattle.canonical.specs.Canonical.{writingAnswer, writingRoom};
 ghost use Rattle.clp.specs.State.{mark, numberOf, stateOf};
-ghost use Rattle.clp.specs.Face.{told, answerOf, outcomeOf, with, noCall, joinFace, joinBuffer, endAnswer, endFace, term, termOf, checkedOf, resolvedOf, partOf};
+ghost use Rattle.clp.specs.Face.{told, answerOf, outcomeOf, with, noCall, joinFace, joinBuffer, endAnswer, endFace, term, termOf, checkedOf, resolvedOf, partOf, standsOf, listFace, listBuffer, listRoom, listEndFace, listEndRoom};
 
 // What every function answers: number 0 and a value, or a refusal's number and its place.
 #[repr(C)]
@@ -253,6 +256,15 @@ pub extern "C" fn clp_next_term(line: &[u8], place: usize) -> ClpTerm
     term_of(yield_at(line, place))
 }
 
+// Writes a line canonically.
+#[no_mangle]
+pub extern "C" fn clp_canonical(line: &[u8], room: &mut [u8]) -> ClpAnswer
+    ensures { λ r. ⌜ r ≡ answerOf (writingAnswer (length (now (room .entry))) (readingOf (now (line .entry)))) ⌝ }
+    ensures { λ r. ⌜ now (room .exit) ≡ writingRoom (now (room .entry)) (readingOf (now (line .entry))) ⌝ }
+{
+    answer_of(canonical::canonical(line, room))
+}
+
 // ---- the tree
 
 fn checked_of(c: Checked) -> ClpAnswer
@@ -303,4 +315,54 @@ pub extern "C" fn clp_full_path(tree: &[u8], node: usize, room: &mut [u8]) -> Cl
     ensures { λ r. ⌜ now (room .exit) ≡ pathRoom (now (room .entry)) (now (tree .entry)) node ⌝ }
 {
     answer_of(tree::full_path(tree, node, room))
+}
+
+// ---- a lister
+
+// Writes records as text.
+#[no_mangle]
+pub extern "C" fn clp_records_text(records: &[u8], room: &mut [u8]) -> ClpAnswer
+    ensures { λ r. ⌜ r ≡ answerOf (textAnswer (length (now (room .entry))) (textOf (now (records .entry)))) ⌝ }
+    ensures { λ r. ⌜ now (room .exit) ≡ textRoom (now (room .entry)) (textOf (now (records .entry))) ⌝ }
+{
+    answer_of(capture::records_text(records, room))
+}
+
+// What stands in the room: so many bytes of records; `none` where there are none.
+fn stands_of(none: u64, s: Stands) -> ClpAnswer
+    ensures { λ r. ⌜ r ≡ standsOf none s ⌝ }
+{
+    match s {
+        Stands::Nothing => gives(none),
+        Stands::Records(n) => gives(wide(n)),
+        Stands::Refused { number, place } => refused(number, place),
+    }
+}
+
+// Joins a part of a capture, and writes the records of the line that it ended.
+#[no_mangle]
+pub extern "C" fn clp_list(state: u64, buffer: &mut [u8], part: &[u8], room: &mut [u8]) -> ClpJoined
+    ensures { λ r. ⌜ r ≡ listFace state (now (buffer .entry)) (now (part .entry)) (now (room .entry)) ⌝ }
+    ensures { λ r. ⌜ now (buffer .exit) ≡ listBuffer state (now (buffer .entry)) (now (part .entry)) (now (room .entry)) ⌝ }
+    ensures { λ r. ⌜ now (room .exit) ≡ listRoom state (now (buffer .entry)) (now (part .entry)) (now (room .entry)) ⌝ }
+{
+    if 16383 < state {
+        return no_call(state);
+    }
+    let l = capture::next_answer(state_of(state), buffer, part, room);
+    let w = l.stands;
+    let s = l.state;
+    joined(stands_of(NONE, w), l.used, s)
+}
+
+// Writes the record that the end of a capture is.
+#[no_mangle]
+pub extern "C" fn clp_list_end(state: u64, room: &mut [u8]) -> ClpAnswer
+    ensures { λ r. ⌜ r ≡ listEndFace state (length (now (room .entry))) ⌝ }
+    ensures { λ r. ⌜ now (room .exit) ≡ listEndRoom state (now (room .entry)) ⌝ }
+{
+    if 16383 < state {
+        return refused(19, 0);
+    }
+    stands_of(0, capture::end_answer(state_of(state), room))
 }

@@ -23,11 +23,14 @@ pub fn compare(rng: &mut Rng) {
     compare_odd_call(rng, &capture);
 }
 
-/// The parts of a capture between its cuts.
+/// The parts of a capture, by their lengths.
 fn parts<'c>(capture: &'c [u8], cuts: &'c [usize]) -> impl Iterator<Item = &'c [u8]> {
-    let starts = std::iter::once(0).chain(cuts.iter().copied());
-    let ends = cuts.iter().copied().chain(std::iter::once(capture.len()));
-    starts.zip(ends).map(|(start, end)| &capture[start..end])
+    let mut rest = capture;
+    cuts.iter().map(move |&length| {
+        let (part, later) = rest.split_at(length);
+        rest = later;
+        part
+    })
 }
 
 fn compare_joining(rng: &mut Rng, capture: &[u8], cuts: &[usize]) {
