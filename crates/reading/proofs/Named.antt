@@ -7,9 +7,9 @@ use mathlib.Core.Option.{Option, none, some}
 use native.Mathlib.Omega.{arith}
 use lib.ListN.{length, drop, getD, length-append}
 use lib.Dec.{eqb, leb}
-use borrow.Author.Tests.{le-leb}
+use borrow.Author.Tests.{le-leb, leb-true}
 use Rattle.text.specs.Lists.{allOf, anyOf, upTo, past, given}
-use Rattle.text.proofs.Basics.{no-case, Given, given-some, cond-some, same-some}
+use Rattle.text.proofs.Basics.{and-l, and-r, and-in, all-mono, no-case, Given, given-some, cond-some, same-some}
 use Rattle.terms.specs.Signs.{Sign, bare, escaped, quote, quoted, quotedEscaped, raw, raws, isBare}
 use Rattle.terms.specs.Terms.{Term, termsOf}
 use Rattle.words.specs.declared.Kind.{Kind}
@@ -24,10 +24,10 @@ use Rattle.reading.specs.declared.State.{State}
 use Rattle.reading.specs.declared.Span.{Span}
 use Rattle.reading.specs.Command.{argumentBy, Item, verb, option, argument, target, prop}
 use Rattle.reading.specs.Reading.{begin, refuses, takes, orNo, notSeen, decideVerb, decideOption, decideArgument, decideTarget, decideProperty, decideAfter, decideIn, decide, next, Part, read, partOf, walkTerms, readingOf}
-use Rattle.reading.specs.Records.{span}
-use Rattle.reading.specs.Inside.{partsInOrder, valueSpan, optionSpans, spansOf, isWithin, namesItself}
+use Rattle.reading.specs.Records.{span, optionRecord, recordOf}
+use Rattle.reading.specs.Inside.{partsInOrder, valueSpan, optionSpans, spansOf, isWithin, namesItself, isInside, recordFrom}
 use Rattle.reading.proofs.Steps.{Made, made}
-use Rattle.reading.proofs.PartOrder.{ended-nil, walk-taken, read-walk}
+use Rattle.reading.proofs.PartOrder.{ended-nil, walk-taken, read-walk, parts-in-order, bounds, order-ends}
 
 -- ---- a property's name and operator have as many bytes as they say
 
@@ -191,3 +191,46 @@ walk-names n s (t ∷ ts) ps h =
 -- EACH RECORD NAMES POSITIONS WITHIN ITS OWN PART; parts-in-order has it that the parts are inside the line
 pub records-name-parts : (line : List ℕ) (ps : List Part) → readingOf line ≡ read ps → allOf namesItself ps ≡ true
 records-name-parts line ps h = walk-names (length line) begin (termsOf line) ps (read-walk line ps h .1)
+
+-- ---- these are the positions and lengths that the record is made of
+
+option-made : (k e : ℕ) → optionRecord k (kindOf k) e ≡ recordFrom (option k) (optionSpans (kindOf k) e)
+option-made k e = go (kindOf k)
+  where
+    go : (d : Kind) → optionRecord k d e ≡ recordFrom (option k) (optionSpans d e)
+    go Mere = refl
+    go Keep = refl
+    go Level = refl
+    go Place = refl
+    go Entries = refl
+
+prop-made : (n : List ℕ) (s : Said) (a l : ℕ) → recordOf (prop (property n s)) a l ≡ recordFrom (prop (property n s)) (spansOf (prop (property n s)) a l)
+prop-made n alone a l = refl
+prop-made n (equals v) a l = refl
+prop-made n (matches v) a l = refl
+
+pub record-made : (i : Item) (a n : ℕ) → recordOf i a n ≡ recordFrom i (spansOf i a n)
+record-made (verb k) a n = refl
+record-made (option k) a n = option-made k (a + n)
+record-made (argument k x) a n = refl
+record-made (target x) a n = refl
+record-made (prop p) a n = prop-made (p .name) (p .said) a n
+
+-- ---- THEY LIE INSIDE THE LINE
+
+wider : (from end n : ℕ) → end ≤ n → (s : Span) → isWithin from end s ≡ true → isWithin 0 n s ≡ true
+wider from end n h s e =
+    let k = leb-true (s .at + s .len) end (and-r (leb from (s .at)) (leb (s .at + s .len) end) e) in
+    within 0 n (s .at) (s .len) (omega arith) (omega arith)
+
+all-inside : (from end : ℕ) (ps : List Part) → partsInOrder from end ps ≡ true → allOf namesItself ps ≡ true → allOf (isInside end) ps ≡ true
+unfolding allOf
+all-inside from end [] o h = refl
+all-inside from end (p ∷ ps) o h =
+    let b = bounds from end p ps o in
+    let e = order-ends (p .start + p .len) end ps (b .rest) in
+    let x = all-mono (isWithin (p .start) (p .start + p .len)) (isWithin 0 end) (wider (p .start) (p .start + p .len) end e) (spansOf (p .item) (p .start) (p .len)) (and-l (namesItself p) (allOf namesItself ps) h) in
+    and-in (isInside end p) (allOf (isInside end) ps) x (all-inside (p .start + p .len) end ps (b .rest) (and-r (namesItself p) (allOf namesItself ps) h))
+
+pub records-inside : (line : List ℕ) (ps : List Part) → readingOf line ≡ read ps → allOf (isInside (length line)) ps ≡ true
+records-inside line ps h = all-inside 0 (length line) ps (parts-in-order line ps h) (records-name-parts line ps h)

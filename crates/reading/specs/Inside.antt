@@ -49,3 +49,23 @@ isWithin from end s = leb from (s .at) && leb (s .at + s .len) end
 -- does each position that a part's record names, with its length, lie in the part?
 abbrev pub namesItself : Part → Bool
 namesItself p = allOf (isWithin (p .start) (p .start + p .len)) (spansOf (p .item) (p .start) (p .len))
+
+-- do all of them lie in the first n bytes?
+abbrev pub isInside : ℕ → Part → Bool
+isInside n p = allOf (isWithin 0 n) (spansOf (p .item) (p .start) (p .len))
+
+-- a record's bytes, from the positions and lengths that it names
+abbrev pub spanBytes : Span → List ℕ
+spanBytes s = two (s .at) ++ two (s .len)
+
+abbrev pub recordFrom : Item → List Span → List ℕ
+recordFrom (verb k) ss = 1 ∷ k ∷ []
+recordFrom (option k) [] = []
+recordFrom (option k) (s ∷ ss) = 2 ∷ k ∷ spanBytes s
+recordFrom (argument k x) [] = []
+recordFrom (argument k x) (s ∷ ss) = 2 ∷ k ∷ spanBytes s
+recordFrom (target x) [] = []
+recordFrom (target x) (s ∷ ss) = 3 ∷ spanBytes s
+recordFrom (prop p) [] = []
+recordFrom (prop p) (s ∷ []) = []
+recordFrom (prop p) (s ∷ v ∷ ss) = 4 ∷ (spanBytes s ++ (operatorOf (p .said) ∷ spanBytes v))
