@@ -1,0 +1,67 @@
+-- `canoncases::cases` is safe and ends: each line lies inside the input. Assumes nothing.
+use borrow.Author.Needs.{needs}
+use Prim.Native.Nat.{_≤_, _-_}
+use lib.ListN.{length}
+use Rattle.canoncases.proofs.cases.Statement.{statement}
+use Rattle.canoncases.proofs.cases.Tie as tie
+use Rattle.canoncases.proofs.cases.Reads as reads
+use Rattle.canoncases.proofs.cases.Lts as lts
+use Rattle.canoncases.proofs.line_end.Reads as line-end-reads
+use Rattle.canoncases.proofs.show.Reads as show-reads
+
+abbrev Inv-loop : tie.InvT-loop
+Inv-loop input at₀ at = at ≤ length input
+
+abbrev μ-loop : tie.MeasureT-loop
+μ-loop input at₀ at = length input - at
+
+loop-holds : tie.Need-loop-holds Inv-loop μ-loop
+loop-holds c = search needs
+
+line-end-requires : tie.Need-line-end-requires Inv-loop μ-loop
+line-end-requires c κs = search needs
+
+sub-show : tie.Need-sub-show Inv-loop μ-loop
+sub-show c = search needs
+
+part-show-start : tie.Need-part-show-start Inv-loop μ-loop
+part-show-start c = search needs
+
+part-show-end : tie.Need-part-show-end Inv-loop μ-loop
+part-show-end c = search needs
+
+show-requires : tie.Need-show-requires Inv-loop μ-loop
+show-requires c κs = search needs
+
+returns : tie.Need-returns Inv-loop μ-loop
+returns c = search needs
+
+add-at : tie.Need-add-at Inv-loop μ-loop
+add-at c = search needs
+
+loop-less : tie.Need-loop-less Inv-loop μ-loop
+loop-less c = search needs
+
+loop-again : tie.Need-loop-again Inv-loop μ-loop
+loop-again c = search needs
+
+returns-2 : tie.Need-returns-2 Inv-loop μ-loop
+returns-2 c = search needs
+
+pub cases-spec : {M : Type 1} → statement M
+cases-spec =
+    tie.close
+    (tie.spec
+    Inv-loop
+    μ-loop
+    loop-holds
+    line-end-requires
+    sub-show
+    part-show-start
+    part-show-end
+    show-requires
+    returns
+    add-at
+    loop-less
+    loop-again
+    returns-2)

@@ -1,0 +1,34 @@
+-- `canoncases::held` is safe: the part lies inside the room. Assumes nothing.
+use mathlib.Core.Path.{sym}
+use lib.Seq.{length-take-le}
+use borrow.Author.Needs.{needs}
+use Rattle.canoncases.proofs.held.Statement.{statement}
+use Rattle.canoncases.proofs.held.Tie as tie
+use Rattle.canoncases.proofs.held.Reads as reads
+use Rattle.canoncases.proofs.held.Lts as lts
+use Rattle.io.proofs.write_all.Reads as write-all-reads
+
+slice-aggregate-write-all : tie.Need-slice-aggregate-write-all
+slice-aggregate-write-all c = let a = c .before .before .before .args in sym (length-take-le (a .n) (a .room .now) (c .before .if1 .taken))
+
+write-all-requires : tie.Need-write-all-requires
+write-all-requires c κs = search needs
+
+slice-aggregate-write-all-2 : tie.Need-slice-aggregate-write-all-2
+slice-aggregate-write-all-2 c = search needs
+
+write-all-requires-2 : tie.Need-write-all-requires-2
+write-all-requires-2 c κs = search needs
+
+returns : tie.Need-returns
+returns c = search needs
+
+pub held-spec : {M : Type 1} → statement M
+held-spec =
+    tie.close
+    (tie.spec
+    slice-aggregate-write-all
+    write-all-requires
+    slice-aggregate-write-all-2
+    write-all-requires-2
+    returns)
