@@ -1,5 +1,5 @@
 -- Laws of the text of records: forms by their kinds, fields in turn, records in turn. Assumes nothing.
-use Prim.Native.Nat.{ℕ, zero, suc, _+_, _-_, _*_, _<_, _≤_}
+use Prim.Native.Nat.{ℕ, zero, suc, _+_, _-_, _*_, _/_, _<_, _≤_}
 use native.Mathlib.Omega.{arith}
 use native.Mathlib.Numerals.{add-one}
 use native.Mathlib.Nat.{add-zero}
@@ -19,16 +19,17 @@ use Rattle.text.specs.Bytes.{bytes}
 use Rattle.text.specs.Decimal.{digits, width}
 use Rattle.text.specs.Room.{fitted, filled}
 use Rattle.text.specs.Room as room′
+use Rattle.text.proofs.Basics.{none-some}
 use Rattle.text.proofs.Slices.{part-from}
 use Rattle.text.proofs.Decimals.{width-between, length-digits}
-use Rattle.text.proofs.Writes.{sets-append, then-sets, then-set, filled-sets}
+use Rattle.text.proofs.Writes.{sets-append, then-sets, then-set, fitted-room, filled-sets}
 use Rattle.words.specs.declared.Known.{Known}
 use Rattle.words.specs.declared.Known.the-variants.{Is, Unknown}
 use Rattle.words.specs.Tables.{known}
 use Rattle.words.specs.Words.{bodies, bodyOf}
 use Rattle.capture.specs.Answers.{Told, wrote, refuses}
 use Rattle.capture.specs.Words.{Form, form, forms, formOf, total, fieldOf, fieldsText, recordText, then, onForm, textFrom, textOf, textAnswer, textRoom}
-use Rattle.capture.specs.Steps.{isForm, wordBy, fieldsBy, bodyBy, lenBy, textBy, firstText, fieldText, rowFields, textAt, flawIn, textIn, answerFrom, answerPast}
+use Rattle.capture.specs.Steps.{isForm, wordBy, fieldsBy, bodyBy, lenBy, textBy, firstText, fieldText, rowFields, textAt, flawIn, textIn, answerFrom, answerPast, verdictBy}
 
 -- ---- kinds
 
@@ -479,14 +480,87 @@ module _ (rs : List ℕ) (p n : ℕ) (h : p < length rs) (len : n ≡ lenBy (for
 
 -- ---- the whole
 
-pub wrote-fits : (room : ℕ) (u : Told) (n : ℕ) → answers.Wrote n ≡ textAnswer room u → (flawIn u ≡ Fine) × (length (textIn u) ≤ room)
-unfolding fitted
-wrote-fits room (wrote t) n h = go (leb (length t) room) refl h
+-- no record's text is more than six times as long as it
+six-by : (k : ℕ) → k ≤ 7 → length (wordBy (formOf k)) + (6 * length (fieldsBy (formOf k)) + 1) ≤ 6 * (1 + total (fieldsBy (formOf k)))
+unfolding formOf forms bytes total
+six-by =
+    eight (λ (k : ℕ). length (wordBy (formOf k)) + (6 * length (fieldsBy (formOf k)) + 1) ≤ 6 * (1 + total (fieldsBy (formOf k))))
+    (omega arith) (omega arith) (omega arith) (omega arith) (omega arith) (omega arith) (omega arith) (omega arith)
+
+form-small : (k : ℕ) (f : Form) → formOf k ≡ some f → k ≤ 7
+form-small k f e = go (ltb 7 k) refl
   where
-    go : (b : Bool) → leb (length t) room ≡ b → answers.Wrote n ≡ cond b (answers.Wrote (length t)) (answers.Refused 19 0) → (_≡_ {A = Verdict} Fine Fine) × (length t ≤ room)
-    go true e h = (refl, leb-true (length t) room e)
-    go false e h = let z : _≡_ {A = ℕ} 0 1 = cc in absurd (omega arith)
-wrote-fits room (refuses k p) n h = let z : _≡_ {A = ℕ} 0 1 = cc in absurd (omega arith)
+    go : (t : Bool) → ltb 7 k ≡ t → k ≤ 7
+    go true q = none-some f (sym (form-past k (ltb-true 7 k q)) ∙ e)
+    go false q = ltb-false 7 k q
+
+record-six : (k : ℕ) (f : Form) (s : List ℕ) → formOf k ≡ some f → length (recordText f s) ≤ 6 * (1 + total (f .fields))
+record-six k f s e =
+    let b : length (f .word) + (6 * length (f .fields) + 1) ≤ 6 * (1 + total (f .fields)) =
+    subst (λ (o : Option Form). length (wordBy o) + (6 * length (fieldsBy o) + 1) ≤ 6 * (1 + total (fieldsBy o))) e (six-by k (form-small k f e)) in
+    omega (
+      arith,
+      b,
+      length-append (f .word) (fieldsText (f .fields) s ++ (10 ∷ [])),
+      length-append (fieldsText (f .fields) s) (10 ∷ []),
+      fields-short (f .fields) s,
+    )
+
+then-length : (t : List ℕ) (u : Told) → length (textIn (then t u)) ≤ length t + length (textIn u)
+then-length t (wrote s) = omega (arith, length-append t s)
+then-length t (refuses n p) = omega arith
+
+on-six : (k p : ℕ) (s : List ℕ) (f : ℕ → List ℕ → Told) (o : Option Form) → formOf k ≡ o → ((q : ℕ) (r : List ℕ) → length (textIn (f q r)) ≤ 6 * length r)
+    → length (textIn (onForm o p s f)) ≤ 6 * suc (length s)
+on-six k p s f none e h = omega arith
+on-six k p s f (some g) e h = go (ltb (length s) (total (g .fields))) refl
+  where
+    go : (b : Bool) → ltb (length s) (total (g .fields)) ≡ b
+        → length (textIn (cond b (refuses 15 p) (then (recordText g s) (f (p + 1 + total (g .fields)) (drop (total (g .fields)) s))))) ≤ 6 * suc (length s)
+    go true i = omega arith
+    go false i =
+        omega (
+          arith,
+          then-length (recordText g s) (f (p + 1 + total (g .fields)) (drop (total (g .fields)) s)),
+          record-six k g s e,
+          h (p + 1 + total (g .fields)) (drop (total (g .fields)) s),
+          length-drop (total (g .fields)) s,
+          ltb-false (length s) (total (g .fields)) i,
+        )
+
+text-six : (n p : ℕ) (s : List ℕ) → length (textIn (textFrom n p s)) ≤ 6 * length s
+unfolding textFrom
+text-six zero p s = omega arith
+text-six (suc n) p [] = omega arith
+text-six (suc n) p (k ∷ s) = on-six k p s (textFrom n) (formOf k) refl (text-six n)
+
+text-of-six : (s : List ℕ) → length (textIn (textOf s)) ≤ 6 * length s
+unfolding textOf
+text-of-six s = text-six (length s) 0 s
+
+-- what hinders: with six times as much room only a bad record does
+pub short-fits : (room : ℕ) (rs : List ℕ) → length rs ≤ room / 6 → flawIn (textAt 0 rs) ≡ verdictBy (textAnswer room (textOf rs))
+short-fits room rs h = ap flawIn (text-start rs) ∙ go (textOf rs) (text-of-six rs)
+  where
+    go : (u : Told) → length (textIn u) ≤ 6 * length rs → flawIn u ≡ verdictBy (textAnswer room u)
+    go (wrote t) l = sym (ap verdictBy (fitted-room room t (omega arith)))
+    go (refuses n p) l = refl
+
+-- nothing hinders: the records are good, the text fits, and its length is the answer
+pub fine-fits : (room : ℕ) (u : Told) → Fine ≡ verdictBy (textAnswer room u)
+    → (flawIn u ≡ Fine) × (length (textIn u) ≤ room) × (answers.Wrote (length (textIn u)) ≡ textAnswer room u)
+unfolding fitted
+fine-fits room (wrote t) h = go (leb (length t) room) refl h
+  where
+    go : (b : Bool) → leb (length t) room ≡ b → Fine ≡ verdictBy (cond b (answers.Wrote (length t)) (answers.Refused 19 0))
+        → (_≡_ {A = Verdict} Fine Fine) × (length t ≤ room) × (answers.Wrote (length t) ≡ cond b (answers.Wrote (length t)) (answers.Refused 19 0))
+    go true e q = (refl, leb-true (length t) room e, refl)
+    go false e q = let z : _≡_ {A = ℕ} 0 1 = cc in absurd (omega arith)
+fine-fits room (refuses k p) h = let z : _≡_ {A = ℕ} 0 1 = cc in absurd (omega arith)
+
+pub flawed-refused : (a : answer.Answer) (n p : ℕ) → Flawed n p ≡ verdictBy a → answers.Refused n p ≡ a
+flawed-refused (answers.Wrote m) n p h = cc
+flawed-refused (answers.Refused m q) n p h = cc
 
 pub room-filled : (out : List ℕ) (u : Told) → flawIn u ≡ Fine → length (textIn u) ≤ length out → sets out 0 (textIn u) ≡ textRoom out u
 room-filled out (wrote t) e h = filled-sets out t h

@@ -75,3 +75,8 @@ answerFrom at room (refuses n p) = answers.Refused n p
 abbrev pub answerPast : Verdict → answer.Answer
 answerPast Fine = answers.Refused 19 0
 answerPast (Flawed n p) = answers.Refused n p
+
+-- what hinders it
+abbrev pub verdictBy : answer.Answer → Verdict
+verdictBy (answers.Wrote n) = Fine
+verdictBy (answers.Refused n p) = Flawed n p

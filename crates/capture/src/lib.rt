@@ -23,7 +23,7 @@ ghost use Rattle.joiner.specs.Join.{endOf};
 ghost use Rattle.capture.specs.Lister.{listedIn, listed, listOf, endStands, endRoom};
 ghost use Rattle.capture.specs.Listing.{standsOf, outcomeStands, outcomeRoom, Ready};
 ghost use Rattle.capture.specs.Words.{formOf, total, fieldOf, fieldsText, textOf, textAnswer, textRoom};
-ghost use Rattle.capture.specs.Steps.{isForm, wordBy, fieldsBy, bodyBy, lenBy, firstText, rowFields, fieldText, textAt, flawIn, textIn, answerPast};
+ghost use Rattle.capture.specs.Steps.{isForm, wordBy, fieldsBy, bodyBy, lenBy, firstText, rowFields, fieldText, textAt, flawIn, textIn, answerPast, verdictBy};
 
 // What now stands in the room: nothing yet, so many bytes of records, or a refusal.
 pub enum Stands {
@@ -243,23 +243,38 @@ fn measured(records: &[u8], room: usize) -> Answer
     Answer::Wrote(at)
 }
 
-// Writes the text of records that are good, where it fits.
-fn write_text(records: &[u8], out: &mut [u8])
+// What hinders writing the text of records into so many bytes of room: a bad record, or 19. No record's text is more than six times as long as it.
+fn hindrance(records: &[u8], room: usize) -> Verdict
+    ensures { λ r. ⌜ r ≡ verdictBy (textAnswer room (textOf (now (records .entry)))) ⌝ }
+{
+    if records.len() <= room / 6 {
+        return flaw(records, 0);
+    }
+    let a = measured(records, room);
+    match a {
+        Answer::Wrote(_) => Verdict::Fine,
+        Answer::Refused { number, place } => Verdict::Flawed { number, place },
+    }
+}
+
+// Writes the text of records that are good, where it fits; tells how many bytes it is.
+fn write_text(records: &[u8], out: &mut [u8]) -> usize
     requires { ⌜ flawIn (textOf (now records)) ≡ Fine ⌝ }
     requires { ⌜ length (textIn (textOf (now records))) ≤ length (now out) ⌝ }
-    ensures { λ r. ⌜ now (out .exit) ≡ sets (now (out .entry)) 0 (textIn (textOf (now (records .entry)))) ⌝ }
+    ensures { λ r. ⌜ (r ≡ length (textIn (textOf (now (records .entry))))) × (now (out .exit) ≡ sets (now (out .entry)) 0 (textIn (textOf (now (records .entry))))) ⌝ }
 {
     let mut p: usize = 0;
     let mut at: usize = 0;
     while p < records.len() {
         let n = record_len(records[p], records.len() - p);
         if n == 0 {
-            return;
+            return at;
         }
         let w = put_record(out, at, &records[p..]);
         at += w;
         p += n;
     }
+    at
 }
 
 // Records as text, one line each, in lent room.
@@ -267,13 +282,13 @@ pub fn records_text(records: &[u8], out: &mut [u8]) -> Answer
     ensures { λ r. ⌜ r ≡ textAnswer (length (now (out .entry))) (textOf (now (records .entry))) ⌝ }
     ensures { λ r. ⌜ now (out .exit) ≡ textRoom (now (out .entry)) (textOf (now (records .entry))) ⌝ }
 {
-    let a = measured(records, out.len());
-    match a {
-        Answer::Refused { number, place } => {
+    let v = hindrance(records, out.len());
+    match v {
+        Verdict::Flawed { number, place } => {
             return Answer::Refused { number, place };
         }
-        Answer::Wrote(n) => {
-            write_text(records, out);
+        Verdict::Fine => {
+            let n = write_text(records, out);
             Answer::Wrote(n)
         }
     }

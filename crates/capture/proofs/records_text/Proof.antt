@@ -7,49 +7,50 @@ use mathlib.Core.List.{List, []}
 use lib.ListN.{length, getD, take, drop}
 use lib.Seq.{sets}
 use borrow.Author.Needs.{needs}
-use Rattle.capture.specs.Words.{formOf, forms, total, fieldOf, fieldsText, textOf, textAnswer, textRoom}
-use Rattle.capture.specs.Steps.{wordBy, lenBy, firstText, fieldText, rowFields, textAt, flawIn, textIn, answerFrom, answerPast}
-use Rattle.capture.proofs.TextLaws.{wrote-fits, room-filled, room-refused}
+use Rattle.text.specs.declared.Answer.the-variants.{Wrote}
+use Rattle.capture.specs.Words.{textOf, textAnswer, textRoom}
+use Rattle.capture.specs.Steps.{textAt, flawIn, textIn, verdictBy}
+use Rattle.capture.proofs.TextLaws.{fine-fits, flawed-refused, room-filled, room-refused}
 use Rattle.capture.proofs.records_text.Statement.{statement}
 use Rattle.capture.proofs.records_text.Tie as tie
 use Rattle.capture.proofs.records_text.Reads as reads
 use Rattle.capture.proofs.records_text.Lts as lts
-use Rattle.capture.proofs.measured.Reads as measured-reads
+use Rattle.capture.proofs.hindrance.Reads as hindrance-reads
 use Rattle.capture.proofs.write_text.Reads as write-text-reads
 
-measured-requires : tie.Need-measured-requires
-measured-requires c κs = search needs
+hindrance-requires : tie.Need-hindrance-requires
+hindrance-requires c κs = tt
 
-enum-known-a : tie.Need-enum-known-a
-enum-known-a c = search needs
+enum-known-v : tie.Need-enum-known-v
+enum-known-v c = search needs
 
 returns : tie.Need-returns
 returns c =
-    let a = c .before .before .before .before .before .before .args in let e = sym (c .before .a .given .1) ∙ c .before .before .before .measured .ensures in
+    let a = c .before .before .before .before .before .before .args in let e = flawed-refused (textAnswer (length (a .out .now)) (textOf (a .records .now))) _ _ (sym (c .before .v .given .1) ∙ c .before .before .before .hindrance .ensures) in
     (e, room-refused (a .out .now) (textOf (a .records .now)) _ _ e)
 
-enum-known-a-2 : tie.Need-enum-known-a-2
-enum-known-a-2 c = search needs
+enum-told : tie.Need-enum-told
+enum-told c = search needs
 
 write-text-requires : tie.Need-write-text-requires
-write-text-requires c κs = let a = c .before .before .before .before .before .before .before .args in wrote-fits (length (a .out .now)) (textOf (a .records .now)) _ (sym (c .before .before .a2 .given .1) ∙ c .before .before .before .before .measured .ensures)
+write-text-requires c κs = let a = c .before .before .before .before .before .before .args in let f = fine-fits (length (a .out .now)) (textOf (a .records .now)) (sym (c .before .enum-told .given .1) ∙ c .before .before .before .hindrance .ensures) in (f .0, f .1)
 
 same-length : tie.Need-same-length
 same-length c = search needs
 
 returns-2 : tie.Need-returns-2
 returns-2 c =
-    let a = c .before .before .before .before .before .before .before .before .before .before .args in let e = sym (c .before .before .before .before .before .a2 .given .1) ∙ c .before .before .before .before .before .before .before .measured .ensures in let f = wrote-fits (length (a .out .now)) (textOf (a .records .now)) _ e in
-    (e, c .before .before .write-text .ensures ∙ room-filled (a .out .now) (textOf (a .records .now)) (f .0) (f .1))
+    let a = c .before .before .before .before .before .before .before .before .before .args in let f = fine-fits (length (a .out .now)) (textOf (a .records .now)) (sym (c .before .before .before .before .enum-told .given .1) ∙ c .before .before .before .before .before .before .hindrance .ensures) in let w = c .before .before .write-text in
+    (ap (λ (n : ℕ). Wrote n) (w .ensures .0) ∙ f .2, w .ensures .1 ∙ room-filled (a .out .now) (textOf (a .records .now)) (f .0) (f .1))
 
 pub records-text-spec : {M : Type 1} → statement M
 records-text-spec =
     tie.close
     (tie.spec
-    measured-requires
-    enum-known-a
+    hindrance-requires
+    enum-known-v
     returns
-    enum-known-a-2
+    enum-told
     write-text-requires
     same-length
     returns-2)

@@ -24,7 +24,7 @@ Inv-loop records out₀ p₀ at₀ out p at =
     (p ≤ length records)
     × (length out ≡ length out₀)
     × (flawIn (textAt p records) ≡ Fine)
-    × (at + length (textIn (textAt p records)) ≤ length out₀)
+    × (at + length (textIn (textAt p records)) ≡ length (textIn (textOf records)))
     × (sets out at (textIn (textAt p records)) ≡ sets out₀ 0 (textIn (textOf records)))
 
 abbrev μ-loop : tie.MeasureT-loop
@@ -33,7 +33,7 @@ abbrev μ-loop : tie.MeasureT-loop
 loop-holds : tie.Need-loop-holds Inv-loop μ-loop
 loop-holds c =
     let a = c .before .before .args in let e = text-start (a .records .now) in
-    (omega arith, refl, ap flawIn e ∙ c .before .before .pre .0, omega (arith, ap (λ (u : Told). length (textIn u)) e, c .before .before .pre .1), ap (λ (u : Told). sets (a .out .now) 0 (textIn u)) e)
+    (omega arith, refl, ap flawIn e ∙ c .before .before .pre .0, omega (arith, ap (λ (u : Told). length (textIn u)) e), ap (λ (u : Told). sets (a .out .now) 0 (textIn u)) e)
 
 shared-slice-read-record-len : tie.Need-shared-slice-read-record-len Inv-loop μ-loop
 shared-slice-read-record-len c = omega arith
@@ -50,7 +50,8 @@ same-length c = c .before .before .before .before .loop .inv .1
 returns : tie.Need-returns Inv-loop μ-loop
 returns c =
     let a = c .before .before .before .before .before .before .before .args in let l = c .before .before .before .before .loop in let r = c .before .record-len in let h = c .before .before .before .loop-test .taken in
-    sym (ap (λ (u : Told). sets (l .out) (l .at) (textIn u)) (text-bad (a .records .now) (l .p) (r .result) h (r .ensures) (c .if1 .taken))) ∙ l .inv .4
+    let e = text-bad (a .records .now) (l .p) (r .result) h (r .ensures) (c .if1 .taken) in
+    (omega (arith, l .inv .3, ap (λ (u : Told). length (textIn u)) e), sym (ap (λ (u : Told). sets (l .out) (l .at) (textIn u)) e) ∙ l .inv .4)
 
 sub-put-record : tie.Need-sub-put-record Inv-loop μ-loop
 sub-put-record c = omega arith
@@ -64,12 +65,12 @@ part-put-record-end c = omega arith
 put-record-requires : tie.Need-put-record-requires Inv-loop μ-loop
 put-record-requires c κs =
     let a = c .before .before .before .before .before .before .before .before .before .args in let l = c .before .before .before .before .before .before .loop in let r = c .before .before .before .record-len in let h = c .before .before .before .before .before .loop-test .taken in let w = c .before .before .if1 .left in
-    (first-from (a .records .now) (l .p) (r .result) h (r .ensures) w, omega (arith, l .inv .3, l .inv .1, length-on (a .records .now) (l .p) (r .result) h (r .ensures) w (l .inv .2) _ refl))
+    (first-from (a .records .now) (l .p) (r .result) h (r .ensures) w, omega (arith, l .inv .3, c .before .before .before .before .before .before .before .before .before .pre .1, length-on (a .records .now) (l .p) (r .result) h (r .ensures) w (l .inv .2) _ refl))
 
 add-at : tie.Need-add-at Inv-loop μ-loop
 add-at c =
     let a = c .before .before .before .before .before .before .before .before .before .before .before .before .args in let l = c .before .before .before .before .before .before .before .before .before .loop in let r = c .before .before .before .before .before .before .record-len in let h = c .before .before .before .before .before .before .before .before .loop-test .taken in let w = c .before .before .before .before .before .if1 .left in
-    omega (arith, l .inv .3, l .inv .1, length-on (a .records .now) (l .p) (r .result) h (r .ensures) w (l .inv .2) (c .before .before .put-record .result) (c .before .before .put-record .ensures .0))
+    omega (arith, l .inv .3, c .before .before .before .before .before .before .before .before .before .before .before .before .pre .1, length-on (a .records .now) (l .p) (r .result) h (r .ensures) w (l .inv .2) (c .before .before .put-record .result) (c .before .before .put-record .ensures .0))
 
 add-p : tie.Need-add-p Inv-loop μ-loop
 add-p c =
@@ -97,8 +98,8 @@ same-length-2 c = c .before .loop .inv .1
 
 returns-2 : tie.Need-returns-2 Inv-loop μ-loop
 returns-2 c =
-    let a = c .before .before .before .before .args in let l = c .before .loop in
-    sym (ap (λ (u : Told). sets (l .out) (l .at) (textIn u)) (text-end (a .records .now) (l .p) (omega arith))) ∙ l .inv .4
+    let a = c .before .before .before .before .args in let l = c .before .loop in let e = text-end (a .records .now) (l .p) (omega arith) in
+    (omega (arith, l .inv .3, ap (λ (u : Told). length (textIn u)) e), sym (ap (λ (u : Told). sets (l .out) (l .at) (textIn u)) e) ∙ l .inv .4)
 
 pub write-text-spec : {M : Type 1} → statement M
 write-text-spec =

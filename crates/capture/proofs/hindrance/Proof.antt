@@ -1,0 +1,44 @@
+-- `capture::hindrance` meets its contract.
+use mathlib.Core.Path.{_≡_, refl, sym, ap, _∙_}
+use Prim.Native.Nat.{ℕ, suc, _+_, _-_, _≤_, _<_}
+use native.Mathlib.Omega.{arith}
+use native.Mathlib.Nat.{add-zero}
+use mathlib.Core.List.{List, []}
+use lib.ListN.{length, getD, take, drop}
+use lib.Seq.{sets}
+use borrow.Author.Needs.{needs}
+use Rattle.capture.specs.Words.{textOf, textAnswer, textRoom}
+use Rattle.capture.specs.Steps.{textAt, flawIn, textIn, verdictBy}
+use Rattle.capture.proofs.TextLaws.{short-fits}
+use Rattle.capture.proofs.hindrance.Statement.{statement}
+use Rattle.capture.proofs.hindrance.Tie as tie
+use Rattle.capture.proofs.hindrance.Reads as reads
+use Rattle.capture.proofs.hindrance.Lts as lts
+use Rattle.capture.proofs.flaw.Reads as flaw-reads
+use Rattle.capture.proofs.measured.Reads as measured-reads
+
+flaw-requires : tie.Need-flaw-requires
+flaw-requires c κs = omega arith
+
+returns : tie.Need-returns
+returns c = let a = c .before .before .before .args in c .flaw .ensures ∙ short-fits (a .room) (a .records .now) (c .before .if1 .taken)
+
+measured-requires : tie.Need-measured-requires
+measured-requires c κs = tt
+
+enum-told : tie.Need-enum-told
+enum-told c = search needs
+
+enum-known-a : tie.Need-enum-known-a
+enum-known-a c = search needs
+
+returns-2 : tie.Need-returns-2
+returns-2 c = sym (ap verdictBy (c .enum-told .given .1)) ∙ ap verdictBy (c .before .before .measured .ensures)
+
+returns-3 : tie.Need-returns-3
+returns-3 c = sym (ap verdictBy (c .before .a .given .1)) ∙ ap verdictBy (c .before .before .before .measured .ensures)
+
+pub hindrance-spec : {M : Type 1} → statement M
+hindrance-spec =
+    tie.close
+    (tie.spec flaw-requires returns measured-requires enum-told enum-known-a returns-2 returns-3)
