@@ -4,3 +4,4 @@ pub mod Paper
 pub mod RowLaws
 pub mod Examples
 pub mod Only
+pub mod RunLaws

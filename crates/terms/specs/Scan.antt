@@ -1,7 +1,7 @@
 -- The term at or after a place, as a scan of the bytes finds it. proofs/TermLaws has it that going on from each end gives the line's terms.
 use Prim.Native.Nat.{ℕ, zero, suc, _+_}
 use mathlib.Core.List.{List, [], _∷_}
-use mathlib.Core.Bool.{Bool, true, false, cond}
+use mathlib.Core.Bool.{Bool, true, false, cond, not, _&&_}
 use lib.ListN.{drop}
 use lib.Dec.{eqb}
 use Rattle.text.specs.Lists.{runLen}
@@ -37,3 +37,7 @@ startAt line at = at + runLen isSpace (drop at line)
 -- from any place it scans as at a line's start; at or past the end there is none
 unfoldable pub termAt : List ℕ → ℕ → Found
 termAt line at = found (startAt line at) (termLen Out (drop (startAt line at) line))
+
+-- a byte that is none of GRAVE, `"` and the one given: outside quotes it changes no mode, and the code passes a run of such bytes without one
+unfoldable pub ordinary : ℕ → ℕ → Bool
+ordinary stop b = not (eqb b 96) && (not (eqb b 34) && not (eqb b stop))

@@ -8,12 +8,12 @@ ghost use Prim.Native.Nat.{_+_, _<_};
 ghost use lib.ListN.{length, drop, set};
 ghost use lib.Seq.{sets};
 ghost use Rattle.text.specs.Bytes.{oneOf};
-ghost use Rattle.text.specs.Lists.{anyOf};
+ghost use Rattle.text.specs.Lists.{anyOf, runLen};
 ghost use Rattle.text.specs.Room.{fitted, filled};
 ghost use Rattle.terms.specs.Signs.{twelve, two, after, gives, atEnd, stands, meant, isBare, hasBare};
 ghost use Rattle.terms.specs.Marks.{isMark, hasMark, startsBare};
 ghost use Rattle.terms.specs.Rows.{opens, openFlaw, manyFlaw, lexicalOf};
-ghost use Rattle.terms.specs.Scan.{gapByte, termLen, startAt, termAt};
+ghost use Rattle.terms.specs.Scan.{gapByte, termLen, startAt, termAt, ordinary};
 
 // Where a scan stands: outside quotes or inside, and there directly after a GRAVE that nothing has escaped.
 pub enum Mode {
@@ -120,8 +120,46 @@ fn gap_end(line: &[u8], at: usize) -> usize
     i
 }
 
+// Whether a byte is none of GRAVE, `"` and the one given: outside quotes it changes no mode.
+fn is_ordinary(b: u8, stop: u8) -> bool
+    ensures { λ r. ⌜ r ≡ ordinary stop b ⌝ }
+{
+    if b == b'`' {
+        return false;
+    }
+    if b == b'"' {
+        return false;
+    }
+    b != stop
+}
+
+// How many such bytes stand at a place: most of a line is passed in this loop, which keeps no mode.
+fn ordinary_len(s: &[u8], stop: u8) -> usize
+    ensures { λ r. ⌜ r ≡ runLen (ordinary stop) (now (s .entry)) ⌝ }
+{
+    let mut i: usize = 0;
+    while i < s.len() {
+        if !is_ordinary(s[i], stop) {
+            return i;
+        }
+        i += 1;
+    }
+    i
+}
+
 // Where the term that begins at a place ends.
 fn term_end(line: &[u8], at: usize) -> usize
+    ensures { λ r. ⌜ r ≡ at + termLen Mode.Out (drop at (now (line .entry))) ⌝ }
+{
+    if line.len() <= at {
+        return at;
+    }
+    let n = ordinary_len(&line[at..], b' ');
+    term_rest(line, at + n)
+}
+
+// The same, byte by byte with its mode.
+fn term_rest(line: &[u8], at: usize) -> usize
     ensures { λ r. ⌜ r ≡ at + termLen Mode.Out (drop at (now (line .entry))) ⌝ }
 {
     let mut i = at;
@@ -172,7 +210,7 @@ fn opened(m: Mode, b: u8, i: usize, q: usize) -> usize
 fn open_flaw(line: &[u8]) -> Verdict
     ensures { λ r. ⌜ r ≡ openFlaw (now (line .entry)) ⌝ }
 {
-    let mut i: usize = 0;
+    let mut i = ordinary_len(line, b'"');
     let mut m = Mode::Out;
     let mut q: usize = 0;
     while i < line.len() {
@@ -293,7 +331,7 @@ fn ends_bare(m: Mode, n: u8) -> bool
 pub fn has_bare(s: &[u8], b: u8) -> bool
     ensures { λ r. ⌜ r ≡ hasBare b (now (s .entry)) ⌝ }
 {
-    let mut i: usize = 0;
+    let mut i = ordinary_len(s, b);
     let mut m = Mode::Out;
     while i < s.len() {
         let c = s[i];

@@ -4,17 +4,20 @@ use Prim.Native.Nat.{ℕ, _-_, _≤_}
 use mathlib.Core.Path.{_≡_, refl, sym, ap, _∙_}
 use native.Mathlib.Omega.{arith}
 use lib.ListN.{length, drop}
-use Rattle.text.proofs.Scans.{walk-on}
+use Rattle.text.proofs.Scans.{walk-on, run-within}
 use Rattle.terms.specs.declared.Mode.{Mode}
 use Rattle.terms.specs.declared.Mode.the-variants.{Out, OutGrave, InGrave}
 use Rattle.terms.specs.Signs.{after}
 use Rattle.terms.specs.Rows.{endMode, openedAt, endFlaw, openFlaw}
+use Rattle.terms.specs.Scan.{ordinary}
+use Rattle.terms.proofs.RunLaws.{run-mode, run-opened-first}
 use Rattle.terms.proofs.ScanLaws.{opened-on, open-is}
 use Rattle.terms.proofs.open_flaw.Statement.{statement}
 use Rattle.terms.proofs.open_flaw.Tie as tie
 use Rattle.terms.proofs.open_flaw.Reads as reads
 use Rattle.terms.proofs.open_flaw.Lts as lts
 use Rattle.terms.proofs.opened.Reads as opened-reads
+use Rattle.terms.proofs.ordinary_len.Reads as ordinary-len-reads
 use Rattle.terms.proofs.step.Reads as step-reads
 
 abbrev Inv-loop : tie.InvT-loop
@@ -34,13 +37,23 @@ not-in-grave : (m : Mode) → m ≡ Out → m ≡ InGrave → ⊥
 not-in-grave m p q = let z : _≡_ {A = ℕ} 0 1 = cc in omega arith
 
 -- after the loop
-ended : (c : tie.After-loop Inv-loop μ-loop) → endFlaw (c .before .loop .m) (c .before .loop .i) (c .before .loop .q) ≡ openFlaw (c .before .before .before .args .line .now)
+ended : (c : tie.After-loop Inv-loop μ-loop) → endFlaw (c .before .loop .m) (c .before .loop .i) (c .before .loop .q) ≡ openFlaw (c .before .before .before .before .args .line .now)
 ended c =
     let l = c .before .loop in
-    open-is (c .before .before .before .args .line .now) (l .i) (l .m) (l .q) (c .loop-test .left) (l .inv .2) (l .inv .0) (l .inv .1)
+    open-is (c .before .before .before .before .args .line .now) (l .i) (l .m) (l .q) (c .loop-test .left) (l .inv .2) (l .inv .0) (l .inv .1)
+
+ordinary-len-requires : tie.Need-ordinary-len-requires Inv-loop μ-loop
+ordinary-len-requires c κs = search needs
 
 loop-holds : tie.Need-loop-holds Inv-loop μ-loop
-loop-holds c = (refl, refl, omega arith, λ _. refl)
+loop-holds c =
+    let l = c .before .before .args .line .now in
+    let e = c .ordinary-len .ensures in (
+      ap (λ (k : ℕ). endMode Out (drop k l)) e ∙ run-mode 34 l,
+      ap (λ (k : ℕ). openedAt Out k 0 (drop k l)) e ∙ run-opened-first 34 l,
+      omega (arith, e, run-within (ordinary 34) l),
+      λ _. refl,
+    )
 
 shared-slice-read-b : tie.Need-shared-slice-read-b Inv-loop μ-loop
 shared-slice-read-b c = search needs
@@ -60,7 +73,7 @@ loop-less c = search needs
 loop-again : tie.Need-loop-again Inv-loop μ-loop
 unfolding endMode
 loop-again c =
-    let l = c .before .before .before .before .before .before .args .line .now in
+    let l = c .before .before .before .before .before .before .before .args .line .now in
     let at = c .before .before .before .before .loop in
     let h = c .before .before .before .loop-test .taken in (
       walk-on after l (at .i) (at .m) (c .step .result) h (c .step .ensures) ∙ at .inv .0,
@@ -109,6 +122,7 @@ open-flaw-spec =
     (tie.spec
     Inv-loop
     μ-loop
+    ordinary-len-requires
     loop-holds
     shared-slice-read-b
     opened-requires

@@ -1,64 +1,55 @@
--- `terms::term_end` meets its contract. The loop's invariant: the place plus the bytes of the term from there on is what it was at first.
+-- `terms::term_end` meets its contract: past a run of ordinary bytes the term goes on as from there.
 use borrow.Author.Needs.{needs}
-use Prim.Native.Nat.{_+_, _-_}
-use mathlib.Core.Path.{_≡_, refl, sym, _∙_}
 use native.Mathlib.Omega.{arith}
-use lib.ListN.{length, drop}
 use Rattle.terms.specs.declared.Mode.the-variants.{Out}
-use Rattle.terms.specs.Scan.{termLen}
-use Rattle.terms.proofs.ScanLaws.{term-ends, term-on, term-past}
+use Rattle.terms.proofs.ScanLaws.{term-past}
+use Rattle.terms.proofs.RunLaws.{term-run, run-fits}
 use Rattle.terms.proofs.term_end.Statement.{statement}
 use Rattle.terms.proofs.term_end.Tie as tie
 use Rattle.terms.proofs.term_end.Reads as reads
 use Rattle.terms.proofs.term_end.Lts as lts
-use Rattle.terms.proofs.is_gap.Reads as is-gap-reads
-use Rattle.terms.proofs.step.Reads as step-reads
+use Rattle.terms.proofs.ordinary_len.Reads as ordinary-len-reads
+use Rattle.terms.proofs.term_rest.Reads as term-rest-reads
 
-abbrev Inv-loop : tie.InvT-loop
-Inv-loop line at i₀ m₀ i m = i + termLen m (drop i line) ≡ at + termLen Out (drop at line)
+returns : tie.Need-returns
+returns c = let a = c .before .before .args in omega (arith, term-past Out (a .line .now) (a .at) (c .if1 .taken))
 
-abbrev μ-loop : tie.MeasureT-loop
-μ-loop line at i₀ m₀ i m = length line - i
+sub-ordinary-len : tie.Need-sub-ordinary-len
+sub-ordinary-len c = search needs
 
-loop-holds : tie.Need-loop-holds Inv-loop μ-loop
-loop-holds c = refl
+part-ordinary-len-start : tie.Need-part-ordinary-len-start
+part-ordinary-len-start c = search needs
 
-shared-slice-read-b : tie.Need-shared-slice-read-b Inv-loop μ-loop
-shared-slice-read-b c = search needs
+part-ordinary-len-end : tie.Need-part-ordinary-len-end
+part-ordinary-len-end c = search needs
 
-is-gap-requires : tie.Need-is-gap-requires Inv-loop μ-loop
-is-gap-requires c κs = search needs
+ordinary-len-requires : tie.Need-ordinary-len-requires
+ordinary-len-requires c κs = search needs
 
-returns : tie.Need-returns Inv-loop μ-loop
-returns c = omega (arith, term-ends (c .before .before .before .before .loop .m) (c .before .before .before .before .before .before .args .line .now) (c .before .before .before .before .loop .i) (c .before .before .before .loop-test .taken) (sym (c .before .is-gap .ensures) ∙ c .if1 .taken))
+add-term-rest : tie.Need-add-term-rest
+add-term-rest c =
+    let a = c .before .before .before .before .args in
+    let h = run-fits (a .line .now) (a .at) (c .ordinary-len .result) (c .before .before .if1 .left) (c .ordinary-len .ensures) in
+    omega arith
 
-step-requires : tie.Need-step-requires Inv-loop μ-loop
-step-requires c κs = search needs
+term-rest-requires : tie.Need-term-rest-requires
+term-rest-requires c κs = search needs
 
-add-i : tie.Need-add-i Inv-loop μ-loop
-add-i c = search needs
-
-loop-less : tie.Need-loop-less Inv-loop μ-loop
-loop-less c = search needs
-
-loop-again : tie.Need-loop-again Inv-loop μ-loop
-loop-again c = omega (arith, term-on (c .before .before .before .before .before .loop .m) (c .step .result) (c .before .before .before .before .before .before .before .args .line .now) (c .before .before .before .before .before .loop .i) (c .before .before .before .before .loop-test .taken) (c .step .ensures) (sym (c .before .before .is-gap .ensures) ∙ c .before .if1 .left))
-
-returns-2 : tie.Need-returns-2 Inv-loop μ-loop
-returns-2 c = omega (arith, term-past (c .before .loop .m) (c .before .before .before .args .line .now) (c .before .loop .i) (c .loop-test .left))
+returns-2 : tie.Need-returns-2
+returns-2 c =
+    let n = c .before in
+    let a = n .before .before .before .before .args in
+    term-run (a .line .now) (a .at) (n .ordinary-len .result) (c .term-rest .result) (n .ordinary-len .ensures) (c .term-rest .ensures)
 
 pub term-end-spec : {M : Type 1} → statement M
 term-end-spec =
     tie.close
     (tie.spec
-    Inv-loop
-    μ-loop
-    loop-holds
-    shared-slice-read-b
-    is-gap-requires
     returns
-    step-requires
-    add-i
-    loop-less
-    loop-again
+    sub-ordinary-len
+    part-ordinary-len-start
+    part-ordinary-len-end
+    ordinary-len-requires
+    add-term-rest
+    term-rest-requires
     returns-2)
