@@ -1,17 +1,16 @@
 -- The arguments of keep, level, source and destination. Assumes nothing.
 use Prim.Native.Nat.{ℕ}
-use mathlib.Core.Path.{_≡_, refl, sym, ap, _∙_}
-use mathlib.Core.List.{List, [], _∷_}
+use mathlib.Core.Path.{_≡_, refl, sym}
+use mathlib.Core.List.{List}
 use mathlib.Core.Bool.{Bool, true, false, not, _||_}
 use Rattle.text.specs.declared.Number.the-variants as number
-use Rattle.text.specs.Lists.{anyOf}
 use Rattle.text.specs.Decimal.{decimalOf}
 use Rattle.text.proofs.Decimals.{is-decimal, no-decimal}
 use Rattle.terms.specs.declared.Mode.the-variants.{Out}
-use Rattle.terms.specs.Signs.{Sign, bare, escaped, quote, quoted, quotedEscaped, signs}
-use Rattle.terms.specs.Marks as marks
+use Rattle.terms.specs.Signs.{signs}
+use Rattle.terms.specs.Marks.{hasMark}
 use Rattle.words.specs.Words.{names, allName}
-use Rattle.forms.specs.Forms.{isKeep, isLevel, isMark, isPlace}
+use Rattle.forms.specs.Forms.{isKeep, isLevel, isPlace}
 
 pub keep-is : (t : List ℕ) (v : ℕ) → number.Is v ≡ decimalOf 4294967295 t → true ≡ isKeep t
 unfolding isKeep
@@ -29,18 +28,6 @@ pub level-all : (t : List ℕ) → isKeep t ≡ false → names allName t ≡ is
 unfolding isLevel
 level-all t e = sym (rw e)
 
-mark-same : (x : Sign) → marks.isMark x ≡ isMark x
-mark-same (bare b) = refl
-mark-same (escaped b) = refl
-mark-same quote = refl
-mark-same (quoted b) = refl
-mark-same (quotedEscaped b) = refl
-
-marks-same : (t : List Sign) → anyOf marks.isMark t ≡ anyOf isMark t
-unfolding anyOf
-marks-same [] = refl
-marks-same (x ∷ t) = rw (mark-same x, marks-same t)
-
-pub place-marks : (t : List ℕ) → not (marks.hasMark t) ≡ isPlace (signs Out t)
-unfolding marks.hasMark isPlace
-place-marks t = ap not (marks-same (signs Out t))
+pub place-marks : (t : List ℕ) → not (hasMark t) ≡ isPlace (signs Out t)
+unfolding hasMark isPlace
+place-marks t = refl

@@ -10,12 +10,8 @@ use Rattle.text.specs.Bytes.{bytes, oneOf, isLetter, isWord}
 use Rattle.text.specs.Lists.{allOf, anyOf, upTo, past, onto, parts, isNil, given, every}
 use Rattle.text.specs.Decimal.{isDecimal}
 use Rattle.terms.specs.Signs.{Sign, bare, escaped, quote, quoted, quotedEscaped, raws, stands, isBare}
+pub use Rattle.terms.specs.Marks.{isMark, firstBare as starts}
 use Rattle.words.specs.Words.{names, allName}
-
--- does a text begin with this bare byte?
-abbrev pub starts : ℕ → List Sign → Bool
-starts n [] = false
-starts n (x ∷ xs) = isBare n x
 
 -- A name is a letter, then letters, digits or underscores, 1 to 64 bytes.
 unfoldable pub isName : List ℕ → Bool
@@ -31,13 +27,6 @@ unfoldable pub isLevel : List ℕ → Bool
 isLevel s = isKeep s || names allName s
 
 -- source, destination: any term without an unescaped `"`
-abbrev pub isMark : Sign → Bool
-isMark (bare b) = false
-isMark (escaped b) = false
-isMark quote = true
-isMark (quoted b) = false
-isMark (quotedEscaped b) = false
-
 unfoldable pub isPlace : List Sign → Bool
 isPlace t = not (anyOf isMark t)
 
