@@ -1,7 +1,7 @@
 /* clp.h: the SM CLP decode option, for C and C++. (Rust declares the same functions in an extern "C" block.)
  *
  * Link libclp.a. The library is written in Rattle and proved: for every input each function below ends, touches no memory but what is lent to it,
- * and gives exactly the answer that is described here. It has no state of its own, allocates nothing, and calls nothing.
+ * and gives exactly the answer that is described here (what is proved is the source; the compiler behind it is not). It has no state of its own, allocates nothing, and calls nothing.
  *
  * One convention for all answers. A function answers with a clp_answer:
  *     number == 0   the call succeeded, and value is what the function's description says;
