@@ -1,4 +1,4 @@
--- `terms::many_flaw` meets its contract. The loop's invariant: the answer for the terms from here on, with k before them, is the answer.
+-- `terms::many_flaw` meets its contract. A line too short for 65 terms is fine. The loop's invariant: the answer for the terms from here on, with k before them, is the answer.
 use borrow.Author.Needs.{needs}
 use Prim.Native.Nat.{_-_, _≤_}
 use mathlib.Core.Path.{_≡_, refl, sym, ap, _∙_}
@@ -11,7 +11,8 @@ use Rattle.terms.specs.Signs.{signs}
 use Rattle.terms.specs.Terms.{termsFrom, termsOf}
 use Rattle.terms.specs.Rows.{manyFrom, manyFlaw}
 use Rattle.terms.specs.Scan.{termAt}
-use Rattle.terms.proofs.TermLaws.{terms-some, terms-none, term-within}
+use Rattle.terms.proofs.TermLaws.{terms-some, terms-none, Within, term-within}
+use Rattle.terms.proofs.RowLaws.{many-short}
 use Rattle.terms.proofs.ScanLaws.{many-ends, many-on}
 use Rattle.terms.proofs.many_flaw.Statement.{statement}
 use Rattle.terms.proofs.many_flaw.Tie as tie
@@ -29,8 +30,14 @@ abbrev μ-loop : tie.MeasureT-loop
 μ-loop line at₀ k₀ at k = length line - at
 
 -- where a term was found: what that says
-got : (c : tie.After-start Inv-loop μ-loop) → Term (c .start .given .0 .0) (c .start .given .0 .1 .0) ≡ termAt (c .before .before .before .before .before .args .line .now) (c .before .before .before .loop .at)
+got : (c : tie.After-start Inv-loop μ-loop) → Term (c .start .given .0 .0) (c .start .given .0 .1 .0) ≡ termAt (c .before .before .before .before .before .before .args .line .now) (c .before .before .before .loop .at)
 got c = sym (c .start .given .1) ∙ c .before .before .term-at .ensures
+
+within : (c : tie.After-start Inv-loop μ-loop) → Within (c .before .before .before .before .before .before .args .line .now) (c .before .before .before .loop .at) (c .start .given .0 .0) (c .start .given .0 .1 .0)
+within c = term-within (c .before .before .before .before .before .before .args .line .now) (c .before .before .before .loop .at) _ _ (got c)
+
+returns : tie.Need-returns Inv-loop μ-loop
+returns c = sym (many-short (c .before .before .args .line .now) (c .if1 .taken))
 
 loop-holds : tie.Need-loop-holds Inv-loop μ-loop
 unfolding manyFlaw termsOf
@@ -45,27 +52,31 @@ enum-known-start c = search needs
 enum-told : tie.Need-enum-told Inv-loop μ-loop
 enum-told c = search needs
 
-returns : tie.Need-returns Inv-loop μ-loop
-unfolding manyFrom
-returns c = sym (ap (manyFrom (c .before .before .before .loop .k)) (terms-none (c .before .before .before .before .before .args .line .now) (c .before .before .before .loop .at) (sym (c .enum-told .given .1) ∙ c .before .before .term-at .ensures))) ∙ c .before .before .before .loop .inv .0
-
 returns-2 : tie.Need-returns-2 Inv-loop μ-loop
-returns-2 c = sym (ap (manyFrom (c .before .before .before .before .before .loop .k)) (terms-some (c .before .before .before .before .before .before .before .args .line .now) (c .before .before .before .before .before .loop .at) _ _ (got (c .before .before))) ∙ many-ends (c .before .before .before .before .before .loop .k) _ _ (c .if1 .taken)) ∙ c .before .before .before .before .before .loop .inv .0
+unfolding manyFrom
+returns-2 c =
+    let at = c .before .before .before in
+    sym (ap (manyFrom (at .loop .k)) (terms-none (at .before .before .before .args .line .now) (at .loop .at) (sym (c .enum-told .given .1) ∙ c .before .before .term-at .ensures))) ∙ at .loop .inv .0
+
+returns-3 : tie.Need-returns-3 Inv-loop μ-loop
+returns-3 c =
+    let at = c .before .before .before .before .before in
+    sym (ap (manyFrom (at .loop .k)) (terms-some (at .before .before .before .args .line .now) (at .loop .at) _ _ (got (c .before .before))) ∙ many-ends (at .loop .k) _ _ (c .if2 .taken)) ∙ at .loop .inv .0
 
 add-k : tie.Need-add-k Inv-loop μ-loop
 add-k c = search needs
 
 add-at : tie.Need-add-at Inv-loop μ-loop
-add-at c = let w = term-within (c .before .before .before .before .before .before .before .args .line .now) (c .before .before .before .before .before .loop .at) _ _ (got (c .before .before)) in let h = w .fits in omega arith
+add-at c = let h = within (c .before .before) .fits in omega arith
 
 loop-less : tie.Need-loop-less Inv-loop μ-loop
-loop-less c = let w = term-within (c .before .before .before .before .before .before .before .args .line .now) (c .before .before .before .before .before .loop .at) _ _ (got (c .before .before)) in let h = w .fits in let p = w .from in let q = w .some in omega arith
+loop-less c = let w = within (c .before .before) in let h = w .fits in let p = w .from in let q = w .some in omega arith
 
 loop-again : tie.Need-loop-again Inv-loop μ-loop
 loop-again c =
-    let w = term-within (c .before .before .before .before .before .before .before .args .line .now) (c .before .before .before .before .before .loop .at) _ _ (got (c .before .before)) in (
-      sym (ap (manyFrom (c .before .before .before .before .before .loop .k)) (terms-some (c .before .before .before .before .before .before .before .args .line .now) (c .before .before .before .before .before .loop .at) _ _ (got (c .before .before))) ∙ many-on (c .before .before .before .before .before .loop .k) _ _ (c .if1 .left)) ∙ c .before .before .before .before .before .loop .inv .0,
-      w .fits,
+    let at = c .before .before .before .before .before in (
+      sym (ap (manyFrom (at .loop .k)) (terms-some (at .before .before .before .args .line .now) (at .loop .at) _ _ (got (c .before .before))) ∙ many-on (at .loop .k) _ _ (c .if2 .left)) ∙ at .loop .inv .0,
+      within (c .before .before) .fits,
       omega arith,
     )
 
@@ -75,12 +86,13 @@ many-flaw-spec =
     (tie.spec
     Inv-loop
     μ-loop
+    returns
     loop-holds
     term-at-requires
     enum-known-start
     enum-told
-    returns
     returns-2
+    returns-3
     add-k
     add-at
     loop-less
