@@ -182,6 +182,13 @@ module _ (r : Reading) (room : List ℕ) where
         go (refusal j a) f = absurd (let z : _≡_ {A = ℕ} 0 1 = cc in omega arith)
         go (read ps) f = refl
 
+    pub total-length : n ≡ length (writtenIn true r)
+    total-length = go r e
+      where
+        go : (q : Reading) → answer.Wrote n ≡ totalFrom 0 true q → n ≡ length (writtenIn true q)
+        go (refusal j a) f = absurd (let z : _≡_ {A = ℕ} 0 1 = cc in omega arith)
+        go (read ps) f = let m : n ≡ 0 + length (restOf true (itemsOf ps)) = cc in omega arith
+
     pub total-none : length room < n → (answer.Refused 19 0 ≡ writingAnswer (length room) r) × (room ≡ writingRoom room r)
     total-none h = go r e
       where

@@ -6,15 +6,14 @@ use mathlib.Core.Bool.{Bool, true, false, cond, not, _&&_, _||_}
 use native.Mathlib.Omega.{arith}
 use native.Mathlib.Numerals.{add-one}
 use lib.ListN.{length, take, drop, getD, set, drop-of-length-le, length-append, length-drop}
-use lib.Seq.{sets, drop-drop, take-at}
+use lib.Seq.{sets, drop-drop}
 use lib.Dec.{eqb, leb}
 use borrow.Author.Tests.{eqb-true, eq-eqb, ne-eqb, leb-true}
 use Rattle.text.specs.Bytes.{bytes, oneOf, sameBytes, isWord}
 use Rattle.text.specs.Lists.{allOf, anyOf, each, between, isNil, runLen}
-use Rattle.text.specs.Room.{wrote}
 use Rattle.text.proofs.Basics.{and-l, and-r, or-l, or-r, either, no-case}
 use Rattle.text.proofs.Scans.{drop-step, run-all, all-run}
-use Rattle.text.proofs.Writes.{sets-append, sets-fill}
+use Rattle.text.proofs.Writes.{sets-append}
 use Rattle.terms.specs.declared.Mode.{Mode}
 use Rattle.terms.specs.declared.Mode.the-variants.{Out, OutGrave, In, InGrave}
 use Rattle.terms.specs.Signs.{Sign, bare, escaped, quote, quoted, quotedEscaped, twelve, two, after, gives, atEnd, signs, raw, raws, stands, isBare, meant}
@@ -50,10 +49,6 @@ after-set o o₁ o₂ s at x e f = rw (f, e, add-one)
 -- a text after a text
 pub after-sets : (o o₁ o₂ a s : List ℕ) (at w : ℕ) → o₁ ≡ sets o at a → w ≡ at + length a → o₂ ≡ sets o₁ w s → o₂ ≡ sets o at (a ++ s)
 after-sets o o₁ o₂ a s at w e p f = rw (f, e, p) (sets-append a s o at)
-
--- what was stored in a room that holds it
-pub held-is : (room held s : List ℕ) (n : ℕ) → held ≡ sets room 0 s → n ≡ length s → length s ≤ length room → take n held ≡ s
-held-is room held s n e p h = ap (take n) (e ∙ sets-fill room s h) ∙ (unfold wrote in take-at s (drop (length s) room) n (sym p))
 
 -- ---- bytes with GRAVEs
 

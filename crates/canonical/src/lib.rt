@@ -20,7 +20,7 @@ ghost use Rattle.reading.specs.Shown.{verdictIn};
 ghost use Rattle.canonical.specs.Canonical.{writeText, writingAnswer, writingRoom};
 ghost use Rattle.canonical.specs.Written.{graves, graved, gravedAll, quotes, isPlain, textIn, textsIn, isParting, textLen, leadsDash, dashGrave, placeIn, slash, slashed, argumentIn, written, gap, writtenIn, totalFrom};
 
-// Every writer tells where its text ends. What would stand past the room's end is not written, so that a first pass can count in no room.
+// Every writer tells where its text ends. What would stand past the room's end is not written, but counted.
 
 // Whether GRAVE is written before a byte, in quotes or outside.
 fn is_graved(b: u8, quoted: bool) -> bool
@@ -295,7 +295,7 @@ fn put_gap(out: &mut [u8], at: usize, first: bool) -> usize
     at + 1
 }
 
-// Term by term from a line's first one on: the line's refusal, or how many bytes were written.
+// Term by term from a line's first one on: the line's refusal, or how many bytes its writing has. Where it is not refused, the writing stands at the room's start.
 fn put_line(line: &[u8], out: &mut [u8]) -> Answer
     requires { ⌜ length (now line) ≤ 1024 ⌝ }
     ensures { λ r. ⌜ (r ≡ totalFrom 0 true (left (now (line .entry)) start)) × (verdictIn (left (now (line .entry)) start) ≡ Verdict.Fine → now (out .exit) ≡ sets (now (out .entry)) 0 (writtenIn true (left (now (line .entry)) start))) ⌝ }
@@ -319,25 +319,24 @@ fn put_line(line: &[u8], out: &mut [u8]) -> Answer
     }
 }
 
-// A line's refusal, or how many bytes its writing has: a first walk, which writes nowhere.
-fn counted(line: &[u8]) -> Answer
-    ensures { λ r. ⌜ r ≡ totalFrom 0 true (readingOf (now (line .entry))) ⌝ }
+// The same of a whole line: its refusal, or how many bytes its writing has, which stands at the room's start, as far as it goes.
+fn put_writing(line: &[u8], out: &mut [u8]) -> Answer
+    ensures { λ r. ⌜ (r ≡ totalFrom 0 true (readingOf (now (line .entry)))) × (verdictIn (readingOf (now (line .entry))) ≡ Verdict.Fine → now (out .exit) ≡ sets (now (out .entry)) 0 (writtenIn true (readingOf (now (line .entry))))) ⌝ }
 {
     let v = terms::lexical(line);
     match v {
         Verdict::Flawed { number, place } => Answer::Refused { number, place },
-        Verdict::Fine => {
-            let mut nowhere = [0u8; 0];
-            put_line(line, &mut nowhere)
-        }
+        Verdict::Fine => put_line(line, out),
     }
 }
 
-// A line's canonical writing, at the start of the room; tells how many bytes it has. A refusal writes nothing.
+// A line's canonical writing, at the start of the room; tells how many bytes it has. A refusal writes nothing: the writing is held until the whole line is read.
+// One of over 1,024 bytes, which is rare, is then written once more.
 pub fn canonical(line: &[u8], out: &mut [u8]) -> Answer
     ensures { λ r. ⌜ (r ≡ writingAnswer (length (now (out .entry))) (readingOf (now (line .entry)))) × (now (out .exit) ≡ writingRoom (now (out .entry)) (readingOf (now (line .entry)))) ⌝ }
 {
-    let a = counted(line);
+    let mut held = [0u8; 1024];
+    let a = put_writing(line, &mut held);
     match a {
         Answer::Refused { number, place } => Answer::Refused { number, place },
         Answer::Wrote(n) => {
@@ -347,8 +346,11 @@ pub fn canonical(line: &[u8], out: &mut [u8]) -> Answer
                     place: 0,
                 };
             }
-            put_line(line, out);
-            Answer::Wrote(n)
+            if n <= 1024 {
+                text::copy(out, 0, &held[..n]);
+                return Answer::Wrote(n);
+            }
+            put_writing(line, out)
         }
     }
 }

@@ -174,6 +174,10 @@ pub needed-fine : (r : Reading) (n : ℕ) → answer.Wrote n ≡ neededIn r → 
 needed-fine (refusal j q) n e = let z : _≡_ {A = ℕ} 0 1 = cc in absurd (omega arith)
 needed-fine (read ps) n e = refl
 
+pub needed-length : (r : Reading) (n : ℕ) → answer.Wrote n ≡ neededIn r → n ≡ length (bytesIn r)
+needed-length (refusal j q) n e = let z : _≡_ {A = ℕ} 0 1 = cc in absurd (omega arith)
+needed-length (read ps) n e = cc
+
 module _ (r : Reading) (n : ℕ) (room : List ℕ) (e : answer.Wrote n ≡ neededIn r) where
   pub read-none : length room < n → (answer.Refused 19 0 ≡ answerIn (length room) r) × (room ≡ roomIn room r)
   read-none h = go r e

@@ -8,6 +8,7 @@ use native.Mathlib.Omega.{arith}
 use lib.ListN.{length, drop, getD, set, length-set, length-append}
 use lib.Dec.{leb}
 use borrow.Author.Tests.{leb-false}
+use Rattle.text.specs.declared.Answer.the-variants.{Wrote}
 use Rattle.text.proofs.Basics.{no-case}
 use Rattle.terms.specs.Signs.{Sign, raws}
 use Rattle.terms.specs.Terms.{Term, termsOf}
@@ -24,7 +25,7 @@ use Rattle.reading.specs.Command.{argumentBy, Item, verb, option, argume
 use Rattle.reading.specs.Reading.{state, begin, refuses, takes, orNo, notSeen, decideVerb, decideOption, decideArgument, decideTarget, decideProperty, decideAfter, decideIn, decide, phaseAfter, next, Part, Reading, refusal, read, partOf, walkTerms, readingOf}
 use Rattle.reading.specs.Records.{optionRecord, recordOf, recordsOf, readRecords}
 use Rattle.reading.specs.Cursor.{shownOf}
-use Rattle.reading.specs.Shown.{recordShown, recordSize}
+use Rattle.reading.specs.Shown.{neededIn, recordShown, recordSize}
 use Rattle.reading.proofs.Steps.{Made, made, record-shown, record-size}
 use Rattle.reading.proofs.PartOrder.{ended-nil, Taken, walk-taken, read-walk}
 
@@ -179,3 +180,11 @@ records-most line ps h =
 pub at-most-399 : (line : List ℕ) (ps : List Part) → readingOf line ≡ read ps → length (readRecords ps) ≤ 399
 at-most-399 line [] h = omega arith
 at-most-399 line (p ∷ ps) h = records-most line (p ∷ ps) h
+
+-- so does what a line is found to need
+pub needed-most : (line : List ℕ) (n : ℕ) → Wrote n ≡ neededIn (readingOf line) → n ≤ 399
+needed-most line n e = go (readingOf line) refl
+  where
+    go : (r : Reading) → readingOf line ≡ r → n ≤ 399
+    go (refusal k p) h = let z : _≡_ {A = ℕ} 0 1 = cc (rw h at e) in absurd (omega arith)
+    go (read ps) h = let m : n ≡ length (readRecords ps) = cc (rw h at e) in omega (arith, m, at-most-399 line ps h)

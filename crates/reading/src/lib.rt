@@ -540,62 +540,10 @@ fn is_blank(line: &[u8]) -> bool
     }
 }
 
-// The refusal of a line's terms, or how many bytes their records have.
-fn count_records(line: &[u8]) -> Answer
+// The refusal of a line's terms, or how many bytes their records have; where they are not refused, the records stand at the room's start, as far as it goes.
+fn put_records(line: &[u8], out: &mut [u8]) -> Answer
     requires { ⌜ length (now line) ≤ 1024 ⌝ }
-    ensures { λ r. ⌜ r ≡ totalFrom 0 (left (now (line .entry)) start) ⌝ }
-{
-    let mut c = Cursor::begin();
-    let mut n: usize = 0;
-    loop {
-        let s = c.next(line);
-        let g = s.given;
-        match g {
-            Given::End => return Answer::Wrote(n),
-            Given::Refused { number, place } => return Answer::Refused { number, place },
-            Given::Part {
-                item,
-                start: _,
-                len: _,
-            } => {
-                n += record_size(item);
-                c = s.next;
-            }
-        }
-    }
-}
-
-// A line's refusal, or how many bytes its records have.
-fn needed(line: &[u8]) -> Answer
-    ensures { λ r. ⌜ r ≡ neededIn (readingOf (now (line .entry))) ⌝ }
-{
-    let v = terms::lexical(line);
-    match v {
-        Verdict::Flawed { number, place } => Answer::Refused { number, place },
-        Verdict::Fine => {
-            if is_blank(line) {
-                return Answer::Wrote(1);
-            }
-            count_records(line)
-        }
-    }
-}
-
-// A line's refusal, or that it has none.
-pub fn verdict(line: &[u8]) -> Verdict
-    ensures { λ r. ⌜ r ≡ verdictIn (readingOf (now (line .entry))) ⌝ }
-{
-    let a = needed(line);
-    match a {
-        Answer::Wrote(_) => Verdict::Fine,
-        Answer::Refused { number, place } => Verdict::Flawed { number, place },
-    }
-}
-
-// The records of the terms of a line that is not refused.
-fn put_records(line: &[u8], out: &mut [u8])
-    requires { ⌜ (length (now line) ≤ 1024) × (verdictIn (left (now line) start) ≡ Verdict.Fine) ⌝ }
-    ensures { λ r. ⌜ now (out .exit) ≡ sets (now (out .entry)) 0 (recordsIn (left (now (line .entry)) start)) ⌝ }
+    ensures { λ r. ⌜ (r ≡ totalFrom 0 (left (now (line .entry)) start)) × (verdictIn (left (now (line .entry)) start) ≡ Verdict.Fine → now (out .exit) ≡ sets (now (out .entry)) 0 (recordsIn (left (now (line .entry)) start))) ⌝ }
 {
     let mut c = Cursor::begin();
     let mut w: usize = 0;
@@ -603,11 +551,8 @@ fn put_records(line: &[u8], out: &mut [u8])
         let s = c.next(line);
         let g = s.given;
         match g {
-            Given::End => return,
-            Given::Refused {
-                number: _,
-                place: _,
-            } => return,
+            Given::End => return Answer::Wrote(w),
+            Given::Refused { number, place } => return Answer::Refused { number, place },
             Given::Part { item, start, len } => {
                 put_record(out, w, item, start, len);
                 w += record_size(item);
@@ -617,23 +562,42 @@ fn put_records(line: &[u8], out: &mut [u8])
     }
 }
 
-// The records of a line that is not refused.
-fn put_reading(line: &[u8], out: &mut [u8])
-    requires { ⌜ verdictIn (readingOf (now line)) ≡ Verdict.Fine ⌝ }
-    ensures { λ r. ⌜ now (out .exit) ≡ sets (now (out .entry)) 0 (bytesIn (readingOf (now (line .entry)))) ⌝ }
+// The same of a whole line: its refusal, or how many bytes its records have.
+fn put_reading(line: &[u8], out: &mut [u8]) -> Answer
+    ensures { λ r. ⌜ (r ≡ neededIn (readingOf (now (line .entry)))) × (verdictIn (readingOf (now (line .entry))) ≡ Verdict.Fine → now (out .exit) ≡ sets (now (out .entry)) 0 (bytesIn (readingOf (now (line .entry))))) ⌝ }
 {
-    if is_blank(line) {
-        text::put(out, 0, 6);
-        return;
+    let v = terms::lexical(line);
+    match v {
+        Verdict::Flawed { number, place } => Answer::Refused { number, place },
+        Verdict::Fine => {
+            if is_blank(line) {
+                text::put(out, 0, 6);
+                return Answer::Wrote(1);
+            }
+            put_records(line, out)
+        }
     }
-    put_records(line, out);
 }
 
-// A line's records, written at the start of the room; tells how many bytes they have. A refusal writes nothing.
+// A line's refusal, or that it has none.
+pub fn verdict(line: &[u8]) -> Verdict
+    ensures { λ r. ⌜ r ≡ verdictIn (readingOf (now (line .entry))) ⌝ }
+{
+    let mut nowhere = [0u8; 0];
+    let a = put_reading(line, &mut nowhere);
+    match a {
+        Answer::Wrote(_) => Verdict::Fine,
+        Answer::Refused { number, place } => Verdict::Flawed { number, place },
+    }
+}
+
+// A line's records, written at the start of the room; tells how many bytes they have. A refusal writes nothing: the records are held, at most 399 bytes, until the
+// whole line is read.
 pub fn read(line: &[u8], out: &mut [u8]) -> Answer
     ensures { λ r. ⌜ (r ≡ answerIn (length (now (out .entry))) (readingOf (now (line .entry)))) × (now (out .exit) ≡ roomIn (now (out .entry)) (readingOf (now (line .entry)))) ⌝ }
 {
-    let a = needed(line);
+    let mut held = [0u8; 399];
+    let a = put_reading(line, &mut held);
     match a {
         Answer::Refused { number, place } => Answer::Refused { number, place },
         Answer::Wrote(n) => {
@@ -643,7 +607,7 @@ pub fn read(line: &[u8], out: &mut [u8]) -> Answer
                     place: 0,
                 };
             }
-            put_reading(line, out);
+            text::copy(out, 0, &held[..n]);
             Answer::Wrote(n)
         }
     }

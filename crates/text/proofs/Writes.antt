@@ -9,7 +9,7 @@ use native.Mathlib.Omega.{arith}
 use borrow.Author.Tests.{le-leb, lt-leb, leb-true, leb-false}
 use lib.Dec.{leb}
 use lib.ListN.{length, getD, take, drop, set, length-set}
-use lib.Seq.{sets, length-sets, sets-eq, set-out, take-nil, take-suc, take-all, length-take-le}
+use lib.Seq.{sets, length-sets, sets-eq, set-out, take-nil, take-suc, take-all, take-at, length-take-le}
 use Rattle.text.specs.declared.Answer.{Answer}
 use Rattle.text.specs.declared.Answer.the-variants.{Wrote, Refused}
 use Rattle.text.specs.Room.{wrote, fitted, filled}
@@ -62,6 +62,10 @@ module _ {A : Type 0} where
 pub sets-fill : (room t : List ℕ) → length t ≤ length room → sets room 0 t ≡ wrote room t
 unfolding wrote
 sets-fill room t h = let e : 0 + length t ≡ length t = omega arith in sets-eq t room 0 (omega arith) ∙ ap (λ (k : ℕ). t ++ drop k room) e
+
+-- what was stored in a room that holds it
+pub held-is : (room held s : List ℕ) (n : ℕ) → held ≡ sets room 0 s → n ≡ length s → length s ≤ length room → take n held ≡ s
+held-is room held s n e p h = ap (take n) (e ∙ sets-fill room s h) ∙ (unfold wrote in take-at s (drop (length s) room) n (sym p))
 
 -- the room is as long as it was
 pub sets-length : (l : List ℕ) (i : ℕ) (xs : List ℕ) → length (sets l i xs) ≡ length l

@@ -7,7 +7,8 @@ use mathlib.Core.Bool.{Bool, true, false}
 use native.Mathlib.Omega.{arith}
 use lib.ListN.{length, replicate, length-append}
 use lib.Seq.{sets, length-take-le}
-use Rattle.canonical.proofs.WriteLaws.{after-sets, held-is}
+use Rattle.canonical.proofs.WriteLaws.{after-sets}
+use Rattle.text.proofs.Writes.{held-is}
 use Rattle.canonical.specs.Written.{gravedAll, leadsDash, dashGrave, placeIn}
 use Rattle.terms.specs.Signs.{meant}
 use Rattle.terms.proofs.TermLaws.{meant-length}

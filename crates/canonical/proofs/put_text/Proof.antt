@@ -6,7 +6,8 @@ use mathlib.Core.List.{List}
 use native.Mathlib.Omega.{arith}
 use lib.ListN.{length, replicate}
 use lib.Seq.{sets, length-take-le}
-use Rattle.canonical.proofs.WriteLaws.{held-is, text-in-none, text-in-some}
+use Rattle.canonical.proofs.WriteLaws.{text-in-none, text-in-some}
+use Rattle.text.proofs.Writes.{held-is}
 use Rattle.canonical.specs.Canonical.{writeText}
 use Rattle.terms.specs.Signs.{raws, meant}
 use Rattle.terms.proofs.TermLaws.{meant-length}

@@ -2,8 +2,8 @@
 use mathlib.Core.Path.{_≡_, refl, sym, ap, _∙_}
 use lib.Seq.{sets}
 use Rattle.reading.specs.Reading.{Reading, readingOf}
-use Rattle.reading.specs.Shown.{verdictIn, bytesIn}
-use Rattle.reading.proofs.Folds.{fine-left, fine-lexical, fine-short, blank-left, bytes-records}
+use Rattle.reading.specs.Shown.{verdictIn, neededIn, bytesIn}
+use Rattle.reading.proofs.Folds.{refused-fine, fine-left, flawed-left, fine-short, blank-left, total-needed, bytes-records}
 use borrow.Author.Needs.{needs}
 use Rattle.reading.proofs.put_reading.Statement.{statement}
 use Rattle.reading.proofs.put_reading.Tie as tie
@@ -11,7 +11,17 @@ use Rattle.reading.proofs.put_reading.Reads as reads
 use Rattle.reading.proofs.put_reading.Lts as lts
 use Rattle.reading.proofs.is_blank.Reads as is-blank-reads
 use Rattle.reading.proofs.put_records.Reads as put-records-reads
+use Rattle.terms.proofs.lexical.Reads as lexical-reads
 use Rattle.text.proofs.put.Reads as put-reads
+
+lexical-requires : tie.Need-lexical-requires
+lexical-requires c κs = search needs
+
+enum-known-v : tie.Need-enum-known-v
+enum-known-v c = search needs
+
+enum-told : tie.Need-enum-told
+enum-told c = search needs
 
 is-blank-requires : tie.Need-is-blank-requires
 is-blank-requires c κs = search needs
@@ -24,36 +34,48 @@ same-length c = search needs
 
 returns : tie.Need-returns
 returns c =
-    let s = c .before .before .before .before .before .before .before .before in
-    let line = s .args .line .now in
-    c .before .before .put .ensures
-    ∙ sym (ap (λ (r : Reading). sets (s .args .out .now) 0 (bytesIn r)) (fine-left line (fine-lexical line (s .pre)) ∙ blank-left line (sym (c .before .before .before .before .before .is-blank .ensures) ∙ c .before .before .before .before .if1 .taken)))
+    let a = c .before .before .before .before .before .before .before .before .before .before .before .args in
+    let line = a .line .now in
+    let f = sym (c .before .before .before .before .before .before .before .before .lexical .ensures) ∙ c .before .before .before .before .before .before .enum-told .given .1 in
+    let e = fine-left line f ∙ blank-left line (sym (c .before .before .before .before .before .is-blank .ensures) ∙ c .before .before .before .before .if1 .taken) in
+    (sym (ap neededIn e), λ g. c .before .before .put .ensures ∙ sym (ap (λ (r : Reading). sets (a .out .now) 0 (bytesIn r)) e))
 
 put-records-requires : tie.Need-put-records-requires
-put-records-requires c κs =
-    let s = c .before .before .before .before .before in
-    let line = s .args .line .now in
-    let f = fine-lexical line (s .pre) in
-    (fine-short line f, ap verdictIn (sym (fine-left line f)) ∙ s .pre)
+put-records-requires c κs = fine-short (c .before .before .before .before .before .before .before .before .args .line .now) (sym (c .before .before .before .before .before .lexical .ensures) ∙ c .before .before .before .enum-told .given .1)
+
+returns-2 : tie.Need-returns-2
+returns-2 c =
+    let line = c .before .before .before .before .before .before .args .line .now in
+    let e = flawed-left line _ _ (sym (c .before .before .before .lexical .ensures) ∙ c .before .v .given .1) in
+    (sym (ap neededIn e), λ g. refused-fine (readingOf line) _ _ e g)
 
 same-length-2 : tie.Need-same-length-2
 same-length-2 c = search needs
 
-returns-2 : tie.Need-returns-2
-returns-2 c =
-    let s = c .before .before .before .before .before .before .before .before in
-    let line = s .args .line .now in
-    c .before .before .put-records .ensures
-    ∙ ap (sets (s .args .out .now) 0) (bytes-records line (sym (c .before .before .before .before .before .is-blank .ensures) ∙ c .before .before .before .before .if1 .left) ∙ sym (ap bytesIn (fine-left line (fine-lexical line (s .pre)))))
+returns-3 : tie.Need-returns-3
+returns-3 c =
+    let a = c .before .before .before .before .before .before .before .before .before .before .before .args in
+    let line = a .line .now in
+    let f = sym (c .before .before .before .before .before .before .before .before .lexical .ensures) ∙ c .before .before .before .before .before .before .enum-told .given .1 in
+    let e = fine-left line f in
+    let b = sym (c .before .before .before .before .before .is-blank .ensures) ∙ c .before .before .before .before .if1 .left in
+    let p = c .before .before .put-records in (
+      p .ensures .0 ∙ total-needed line b ∙ sym (ap neededIn e),
+      λ g. p .ensures .1 (sym (ap verdictIn e) ∙ g) ∙ ap (sets (a .out .now) 0) (bytes-records line b ∙ sym (ap bytesIn e)),
+    )
 
 pub put-reading-spec : {M : Type 1} → statement M
 put-reading-spec =
     tie.close
     (tie.spec
+    lexical-requires
+    enum-known-v
+    enum-told
     is-blank-requires
     put-requires
     same-length
     returns
     put-records-requires
+    returns-2
     same-length-2
-    returns-2)
+    returns-3)

@@ -8,10 +8,13 @@ use Rattle.reading.proofs.verdict.Statement.{statement}
 use Rattle.reading.proofs.verdict.Tie as tie
 use Rattle.reading.proofs.verdict.Reads as reads
 use Rattle.reading.proofs.verdict.Lts as lts
-use Rattle.reading.proofs.needed.Reads as needed-reads
+use Rattle.reading.proofs.put_reading.Reads as put-reading-reads
 
-needed-requires : tie.Need-needed-requires
-needed-requires c κs = search needs
+slice-aggregate-put-reading : tie.Need-slice-aggregate-put-reading
+slice-aggregate-put-reading c = search needs
+
+put-reading-requires : tie.Need-put-reading-requires
+put-reading-requires c κs = search needs
 
 enum-told : tie.Need-enum-told
 enum-told c = search needs
@@ -20,14 +23,10 @@ enum-known-a : tie.Need-enum-known-a
 enum-known-a c = search needs
 
 returns : tie.Need-returns
-returns c =
-    let a = c .before .before .before .before .args in
-    sym (needed-fine (readingOf (a .line .now)) _ (sym (c .enum-told .given .1) ∙ c .before .before .needed .ensures))
+returns c = sym (needed-fine (readingOf (c .before .before .before .before .before .before .args .line .now)) _ (sym (c .enum-told .given .1) ∙ c .before .before .before .put-reading .ensures .0))
 
 returns-2 : tie.Need-returns-2
-returns-2 c =
-    let a = c .before .before .before .before .before .args in
-    sym (ap verdictIn (needed-refused (readingOf (a .line .now)) _ _ (sym (c .before .a .given .1) ∙ c .before .before .before .needed .ensures)))
+returns-2 c = sym (ap verdictIn (needed-refused (readingOf (c .before .before .before .before .before .before .before .args .line .now)) _ _ (sym (c .before .a .given .1) ∙ c .before .before .before .before .put-reading .ensures .0)))
 
 pub verdict-spec : {M : Type 1} → statement M
-verdict-spec = tie.close (tie.spec needed-requires enum-told enum-known-a returns returns-2)
+verdict-spec = tie.close (tie.spec slice-aggregate-put-reading put-reading-requires enum-told enum-known-a returns returns-2)
