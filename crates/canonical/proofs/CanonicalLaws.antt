@@ -37,7 +37,7 @@ module _ (line room : List ℕ) where
   )
 
   module _ (ps : List Part) (e : readingOf line ≡ read ps) where
-    -- what the first walk counts is the writing's length
+    -- what is counted is the length of the writing
     pub counts-length : totalFrom 0 true (readingOf line) ≡ answer.Wrote (length (writing (itemsOf ps)))
     unfolding restOf writing
     counts-length = ap (totalFrom 0 true) e ∙ ap answer.Wrote (omega arith)
