@@ -61,36 +61,27 @@ pub fn is_two(b: u8) -> bool
     }
 }
 
-// What a byte leads to outside quotes, and inside, where no GRAVE takes it.
-fn step_out(b: u8) -> Mode
-    ensures { λ r. ⌜ r ≡ after Mode.Out b ⌝ }
-{
-    match b {
-        b'`' => Mode::OutGrave,
-        b'"' => Mode::In,
-        _ => Mode::Out,
-    }
-}
-
-fn step_in(b: u8) -> Mode
-    ensures { λ r. ⌜ r ≡ after Mode.In b ⌝ }
-{
-    match b {
-        b'`' => Mode::InGrave,
-        b'"' => Mode::Out,
-        _ => Mode::In,
-    }
-}
-
-// Where a scan stands after one more byte.
-pub fn step(m: Mode, b: u8) -> Mode
+// Where a scan stands after a byte, by what that byte leads to from outside quotes and from inside, where no GRAVE takes it.
+fn step_by(m: Mode, b: u8, out: Mode, inside: Mode) -> Mode
+    requires { ⌜ (out ≡ after Mode.Out b) × (inside ≡ after Mode.In b) ⌝ }
     ensures { λ r. ⌜ r ≡ after m b ⌝ }
 {
     match m {
-        Mode::Out => step_out(b),
+        Mode::Out => out,
         Mode::OutGrave => Mode::Out,
-        Mode::In => step_in(b),
+        Mode::In => inside,
         Mode::InGrave => Mode::In,
+    }
+}
+
+// Where a scan stands after one more byte: the byte is looked at first, since it is easier to foresee than the mode.
+pub fn step(m: Mode, b: u8) -> Mode
+    ensures { λ r. ⌜ r ≡ after m b ⌝ }
+{
+    match b {
+        b'`' => step_by(m, b, Mode::OutGrave, Mode::InGrave),
+        b'"' => step_by(m, b, Mode::In, Mode::Out),
+        _ => step_by(m, b, Mode::Out, Mode::In),
     }
 }
 

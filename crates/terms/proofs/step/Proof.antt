@@ -1,58 +1,40 @@
--- `terms::step` meets its contract.
+-- `terms::step` meets its contract: what each kind of byte leads to is as `after` says.
+use mathlib.Core.Path.{sym, ap}
+use borrow.Author.Tests.{ne-eqb}
+use Rattle.terms.specs.declared.Mode.the-variants.{Out, In}
 use Rattle.terms.specs.Signs.{after}
 use borrow.Author.Needs.{needs}
 use Rattle.terms.proofs.step.Statement.{statement}
 use Rattle.terms.proofs.step.Tie as tie
 use Rattle.terms.proofs.step.Reads as reads
 use Rattle.terms.proofs.step.Lts as lts
-use Rattle.terms.proofs.step_in.Reads as step-in-reads
-use Rattle.terms.proofs.step_out.Reads as step-out-reads
+use Rattle.terms.proofs.step_by.Reads as step-by-reads
 
-enum-told : tie.Need-enum-told
-enum-told c = search needs
+step-by-requires : tie.Need-step-by-requires
+unfolding after
+step-by-requires c κs = (sym (ap (λ x. after Out x) (c .match .keys1)), sym (ap (λ x. after In x) (c .match .keys1)))
 
-step-out-requires : tie.Need-step-out-requires
-step-out-requires c κs = search needs
+step-by-requires-2 : tie.Need-step-by-requires-2
+unfolding after
+step-by-requires-2 c κs = (sym (ap (λ x. after Out x) (c .match .keys2)), sym (ap (λ x. after In x) (c .match .keys2)))
 
-enum-told-2 : tie.Need-enum-told-2
-enum-told-2 c = search needs
-
-enum-told-3 : tie.Need-enum-told-3
-enum-told-3 c = search needs
-
-step-in-requires : tie.Need-step-in-requires
-step-in-requires c κs = search needs
-
-enum-told-4 : tie.Need-enum-told-4
-enum-told-4 c = search needs
+step-by-requires-3 : tie.Need-step-by-requires-3
+unfolding after
+step-by-requires-3 c κs =
+    let g = ne-eqb (c .before .args .b) 96 (c .match .rest .0 .1) in
+    let q = ne-eqb (c .before .args .b) 34 (c .match .rest .1) in
+    (simp (g, q), simp (g, q))
 
 returns : tie.Need-returns
-unfolding after
-returns c = rw (c .before .enum-told .given .1) (c .step-out .ensures)
+returns c = search needs
 
 returns-2 : tie.Need-returns-2
-unfolding after
-returns-2 c = rw (c .enum-told2 .given .1)
+returns-2 c = search needs
 
 returns-3 : tie.Need-returns-3
-unfolding after
-returns-3 c = rw (c .before .enum-told3 .given .1) (c .step-in .ensures)
-
-returns-4 : tie.Need-returns-4
-unfolding after
-returns-4 c = rw (c .enum-told4 .given .1)
+returns-3 c = search needs
 
 pub step-spec : {M : Type 1} → statement M
 step-spec =
     tie.close
-    (tie.spec
-    enum-told
-    step-out-requires
-    enum-told-2
-    enum-told-3
-    step-in-requires
-    enum-told-4
-    returns
-    returns-2
-    returns-3
-    returns-4)
+    (tie.spec step-by-requires step-by-requires-2 step-by-requires-3 returns returns-2 returns-3)
