@@ -207,7 +207,7 @@ value-writes t r v h p = go t (starts 40 t) refl h
 
 -- ---- names: raw bytes that are letters, digits and underscores stand for themselves
 
-word-signs : (a : List Sign) → allOf isWord (raws a) ≡ true → (anyOf parting a ≡ false) × (stands a ≡ raws a)
+pub word-signs : (a : List Sign) → allOf isWord (raws a) ≡ true → (anyOf parting a ≡ false) × (stands a ≡ raws a)
 unfolding raws stands anyOf allOf parting
 word-signs [] h = (refl, refl)
 word-signs (bare b ∷ a) h =

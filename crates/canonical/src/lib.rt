@@ -104,13 +104,16 @@ fn put_value(out: &mut [u8], at: usize, s: &[u8]) -> usize
     put_quoted(out, at, s)
 }
 
-// A text of a property, or of the items of display and output; nothing where there is none.
+// A text of a property, or of the items of display and output; nothing where there is none. One of letters, digits and underscores stands for itself.
 fn put_text(out: &mut [u8], at: usize, s: &[u8]) -> usize
     requires { ⌜ (length (now s) ≤ 1024) × (at + 4 * length (now s) ≤ 65536) ⌝ }
     ensures { λ r. ⌜ (r ≡ at + length (textIn (now (s .entry)))) × (now (out .exit) ≡ sets (now (out .entry)) at (textIn (now (s .entry)))) × (r ≤ at + 4 * length (now (s .entry))) ⌝ }
 {
     if s.len() == 0 {
         return at;
+    }
+    if is_plain(s) {
+        return put_raw(out, at, s);
     }
     let mut held = [0u8; 1024];
     let n = terms::put_meant(&mut held, 0, s);
