@@ -2,17 +2,18 @@
 use text::Answer;
 use text::Verdict;
 ghost use mathlib.Core.Path.{_≡_};
-ghost use mathlib.Core.Bool.{cond};
+ghost use mathlib.Core.Bool.{false, cond, not};
 ghost use mathlib.Core.List.{[], _∷_};
 ghost use Prim.Native.Nat.{_+_, _<_};
 ghost use lib.ListN.{length, drop, set};
 ghost use lib.Seq.{sets};
+ghost use lib.Dec.{eqb};
 ghost use Rattle.text.specs.Bytes.{oneOf};
 ghost use Rattle.text.specs.Lists.{anyOf, runLen};
 ghost use Rattle.text.specs.Room.{fitted, filled};
 ghost use Rattle.terms.specs.Signs.{twelve, two, after, gives, atEnd, stands, meant, isBare, hasBare};
 ghost use Rattle.terms.specs.Marks.{isMark, hasMark, startsBare};
-ghost use Rattle.terms.specs.Rows.{opens, openFlaw, manyFlaw, lexicalOf};
+ghost use Rattle.terms.specs.Rows.{openFlaw, manyFlaw, lexicalOf};
 ghost use Rattle.terms.specs.Scan.{gapByte, termLen, startAt, termAt, ordinary};
 
 // Where a scan stands: outside quotes or inside, and there directly after a GRAVE that nothing has escaped.
@@ -180,51 +181,68 @@ pub fn term_at(line: &[u8], at: usize) -> Found
     }
 }
 
-// The place of the quote that was opened last: i if this byte opens one.
-fn opened(m: Mode, b: u8, i: usize, q: usize) -> usize
-    ensures { λ r. ⌜ r ≡ opens m b i q ⌝ }
+// Whether a byte is this one and is not taken by the GRAVE before it.
+fn is_free(taken: bool, b: u8, n: u8) -> bool
+    ensures { λ r. ⌜ r ≡ cond taken false (eqb b n) ⌝ }
 {
-    match m {
-        Mode::Out => {
-            if b == b'"' {
-                return i;
-            }
-            q
-        }
-        Mode::OutGrave => q,
-        Mode::In => q,
-        Mode::InGrave => q,
+    if taken {
+        return false;
     }
+    b == n
 }
 
-// Rows 3 and 4: whether the line ends in a GRAVE that escapes nothing, or in a quote.
+// Whether quotes are open after a byte that is a quote mark or not.
+fn turned(inside: bool, mark: bool) -> bool
+    ensures { λ r. ⌜ r ≡ cond mark (not inside) inside ⌝ }
+{
+    if mark {
+        return !inside;
+    }
+    inside
+}
+
+// The place of the quote that was opened last: i if a quote mark there opens one.
+fn opened(inside: bool, mark: bool, i: usize, q: usize) -> usize
+    ensures { λ r. ⌜ r ≡ cond mark (cond inside q i) q ⌝ }
+{
+    if mark {
+        if inside {
+            return q;
+        }
+        return i;
+    }
+    q
+}
+
+// Rows 3 and 4: whether the line ends in a GRAVE that escapes nothing, or in a quote. The mode is kept as two tests, inside quotes and taken by a GRAVE, so that no byte is branched on.
 fn open_flaw(line: &[u8]) -> Verdict
     ensures { λ r. ⌜ r ≡ openFlaw (now (line .entry)) ⌝ }
 {
     let mut i = ordinary_len(line, b'"');
-    let mut m = Mode::Out;
+    let mut inside = false;
+    let mut taken = false;
     let mut q: usize = 0;
     while i < line.len() {
         let b = line[i];
-        q = opened(m, b, i, q);
-        m = step(m, b);
+        let mark = is_free(taken, b, b'"');
+        taken = is_free(taken, b, b'`');
+        q = opened(inside, mark, i, q);
+        inside = turned(inside, mark);
         i += 1;
     }
-    match m {
-        Mode::Out => Verdict::Fine,
-        Mode::OutGrave => Verdict::Flawed {
+    if taken {
+        return Verdict::Flawed {
             number: 3,
             place: i - 1,
-        },
-        Mode::In => Verdict::Flawed {
+        };
+    }
+    if inside {
+        return Verdict::Flawed {
             number: 4,
             place: q,
-        },
-        Mode::InGrave => Verdict::Flawed {
-            number: 3,
-            place: i - 1,
-        },
+        };
     }
+    Verdict::Fine
 }
 
 // Row 5: whether there are over 64 terms; 65 of one byte, with 64 spaces between them, are 129 bytes.
