@@ -87,25 +87,23 @@ module _ (s : Joiner) (r : Bool) where
   pub end-joins : s .grave ≡ true → record { state = st (s .held) false r (s .over); outcome = More } ≡ steppedOf (endStep r s)
   end-joins g = simp g
 
-  pub end-refused : s .grave ≡ false → s .over ≡ true → record { state = st 0 false r false; outcome = Refused 1 1024 } ≡ steppedOf (endStep r s)
-  end-refused g o = simp (g, o)
+  pub end-refused : (m : Joiner) → m ≡ st 0 false r false → s .grave ≡ false → s .over ≡ true → record { state = m; outcome = Refused 1 1024 } ≡ steppedOf (endStep r s)
+  end-refused m e g o = simp (e, g, o)
 
-  pub end-line : s .grave ≡ false → s .over ≡ false → record { state = st 0 false r false; outcome = Line (s .held) } ≡ steppedOf (endStep r s)
-  end-line g o = simp (g, o)
+  pub end-line : (m : Joiner) → m ≡ st 0 false r false → s .grave ≡ false → s .over ≡ false → record { state = m; outcome = Line (s .held) } ≡ steppedOf (endStep r s)
+  end-line m e g o = simp (e, g, o)
 
--- ---- what `step` leaves behind, from what its calls of `push` left behind
+-- ---- what `step` leaves behind, from what its calls of `marked` and `push` left behind
 
-module _ (s r₁ : Joiner) (b b₁ : List ℕ) (x : ℕ) where
-  pub plain-done : (x ≡ 13 → ⊥) → (x ≡ 10 → ⊥) → (x ≡ 96 → ⊥) → s .grave ≡ false
-      → r₁ ≡ pushed (st (s .held) (s .grave) false (s .over)) → b₁ ≡ set b (s .held) x
+module _ (s m r₁ : Joiner) (b b₁ : List ℕ) (x : ℕ) (e : m ≡ marks false s .state) where
+  pub plain-done : (x ≡ 13 → ⊥) → (x ≡ 10 → ⊥) → (x ≡ 96 → ⊥) → s .grave ≡ false → r₁ ≡ pushed m → b₁ ≡ set b (m .held) x
       → Done s b x (record { state = r₁; outcome = More }) b₁
-  plain-done h₁ h₂ h₃ g e₁ f₁ = rw (step-plain s x h₁ h₂ h₃ g) (cc, f₁)
+  plain-done h₁ h₂ h₃ g e₁ f₁ = rw (step-plain s x h₁ h₂ h₃ g) (rw (e₁, e) refl, rw (f₁, e) refl)
 
   pub pair-done : (r₂ : Joiner) (b₂ : List ℕ) → (x ≡ 13 → ⊥) → (x ≡ 10 → ⊥) → s .grave ≡ true
-      → r₁ ≡ pushed (st (s .held) false false (s .over)) → b₁ ≡ set b (s .held) 96
-      → r₂ ≡ pushed r₁ → b₂ ≡ set b₁ (r₁ .held) x
+      → r₁ ≡ pushed m → b₁ ≡ set b (m .held) 96 → r₂ ≡ pushed r₁ → b₂ ≡ set b₁ (r₁ .held) x
       → Done s b x (record { state = r₂; outcome = More }) b₂
-  pair-done r₂ b₂ h₁ h₂ g e₁ f₁ e₂ f₂ = rw (step-pair s x h₁ h₂ g) (cc, cc)
+  pair-done r₂ b₂ h₁ h₂ g e₁ f₁ e₂ f₂ = rw (step-pair s x h₁ h₂ g) (rw (e₂, e₁, e) refl, rw (f₂, f₁, e₁, e) refl)
 
 -- ---- a call, with one byte more
 
@@ -165,7 +163,7 @@ module _ (R : Ran) (i : ℕ) (s : Joiner) (b p : List ℕ) (h : i < length p) (i
       ∙ rw (d .0, d .1, add-one i) refl
 
 -- a turn of the loop of `copy`: a plain byte where there is room
-plain-step : (h x : ℕ) → h < 1024 → kindOf x ≡ plain
+pub plain-step : (h x : ℕ) → h < 1024 → kindOf x ≡ plain
     → byteStep (st h false false false) x ≡ record { state = st (h + 1) false false false; put = x ∷ []; out = More }
 unfolding byteStep more
 plain-step h x l e = simp (e, lt-ltb h 1024 l, lt-leb 1024 h l)
