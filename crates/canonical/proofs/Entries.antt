@@ -18,7 +18,7 @@ use Rattle.canonical.proofs.Lexing.{okBare, good}
 use Rattle.canonical.proofs.Frame.{cleanSign}
 use Rattle.canonical.proofs.Values.{word-ok, good-bares, raws-bares, none-words, name-words, okValue, value-again, value-good, value-no-eq, value-ok, drop-clean, starts-none, text-none}
 use Rattle.canonical.proofs.Names.{okEntry, entry-again, entry-good, entry-ok, name-some, okOptional}
-use Rattle.text.proofs.Basics.{and-l, and-r, and-in, or-l, or-r, either, no-case, all-append, all-up, all-past, up-at, past-at, any-at, any-append, or-case, neg, all-mono, any-between, any-each, given-some, cond-some, every-again, every-ok}
+use Rattle.text.proofs.Basics.{and-l, and-r, and-in, or-l, or-r, either, no-case, all-append, all-up, all-past, up-at, past-at, any-at, any-append, or-case, all-mono, any-between, any-each, given-some, cond-some, every-again, every-ok}
 
 no-word-40 : isWord 40 ≡ false
 unfolding isWord

@@ -13,7 +13,8 @@ use Rattle.terms.specs.declared.Mode.{Mode}
 use Rattle.terms.specs.declared.Mode.the-variants.{In, InGrave, Out, OutGrave}
 use Rattle.text.specs.Bytes.{bytes, oneOf, printable}
 use Rattle.text.specs.Lists.{allOf, anyOf, between, each, upTo, walk}
-use Rattle.text.proofs.Basics.{and-l, and-r, and-in, no-case, all-append, neg}
+use Rattle.text.proofs.Basics.{and-l, and-r, and-in, no-case, all-append}
+use borrow.Author.Tests.{not-true}
 
 -- a byte that may be written bare
 abbrev pub okBare : ℕ → Bool
@@ -55,8 +56,8 @@ modeOf true = In
 sign-read : (q : Bool) (x : Sign) → okSign q x ≡ true → (r : List ℕ) → signs (modeOf q) (raw x ++ r) ≡ x ∷ signs (modeOf (turn q x)) r
 unfolding signs gives after
 sign-read false (bare b) e r =
-    let g = neg (eqb b 96) (and-l (not (eqb b 96)) (not (eqb b 34) && printable b) (and-r (not (eqb b 32)) (okQuoted b) e)) in
-    let h = neg (eqb b 34) (and-l (not (eqb b 34)) (printable b) (and-r (not (eqb b 96)) (not (eqb b 34) && printable b) (and-r (not (eqb b 32)) (okQuoted b) e))) in
+    let g = not-true (eqb b 96) (and-l (not (eqb b 96)) (not (eqb b 34) && printable b) (and-r (not (eqb b 32)) (okQuoted b) e)) in
+    let h = not-true (eqb b 34) (and-l (not (eqb b 34)) (printable b) (and-r (not (eqb b 96)) (not (eqb b 34) && printable b) (and-r (not (eqb b 32)) (okQuoted b) e))) in
     simp (g, h)
 sign-read false (escaped b) e r = simp (and-l (oneOf twelve b) (printable b) e)
 sign-read false quote e r = refl
@@ -66,16 +67,16 @@ sign-read true (bare b) e r = cc
 sign-read true (escaped b) e r = cc
 sign-read true quote e r = refl
 sign-read true (quoted b) e r =
-    let g = neg (eqb b 96) (and-l (not (eqb b 96)) (not (eqb b 34) && printable b) e) in
-    let h = neg (eqb b 34) (and-l (not (eqb b 34)) (printable b) (and-r (not (eqb b 96)) (not (eqb b 34) && printable b) e)) in
+    let g = not-true (eqb b 96) (and-l (not (eqb b 96)) (not (eqb b 34) && printable b) e) in
+    let h = not-true (eqb b 34) (and-l (not (eqb b 34)) (printable b) (and-r (not (eqb b 96)) (not (eqb b 34) && printable b) e)) in
     simp (g, h)
 sign-read true (quotedEscaped b) e r = simp (and-l (oneOf two b) (printable b) e)
 
 sign-end : (q : Bool) (x : Sign) → okSign q x ≡ true → (r : List ℕ) → endMode (modeOf q) (raw x ++ r) ≡ endMode (modeOf (turn q x)) r
 unfolding endMode after walk
 sign-end false (bare b) e r =
-    let g = neg (eqb b 96) (and-l (not (eqb b 96)) (not (eqb b 34) && printable b) (and-r (not (eqb b 32)) (okQuoted b) e)) in
-    let h = neg (eqb b 34) (and-l (not (eqb b 34)) (printable b) (and-r (not (eqb b 96)) (not (eqb b 34) && printable b) (and-r (not (eqb b 32)) (okQuoted b) e))) in
+    let g = not-true (eqb b 96) (and-l (not (eqb b 96)) (not (eqb b 34) && printable b) (and-r (not (eqb b 32)) (okQuoted b) e)) in
+    let h = not-true (eqb b 34) (and-l (not (eqb b 34)) (printable b) (and-r (not (eqb b 96)) (not (eqb b 34) && printable b) (and-r (not (eqb b 32)) (okQuoted b) e))) in
     simp (g, h)
 sign-end false (escaped b) e r = refl
 sign-end false quote e r = refl
@@ -85,8 +86,8 @@ sign-end true (bare b) e r = cc
 sign-end true (escaped b) e r = cc
 sign-end true quote e r = refl
 sign-end true (quoted b) e r =
-    let g = neg (eqb b 96) (and-l (not (eqb b 96)) (not (eqb b 34) && printable b) e) in
-    let h = neg (eqb b 34) (and-l (not (eqb b 34)) (printable b) (and-r (not (eqb b 96)) (not (eqb b 34) && printable b) e)) in
+    let g = not-true (eqb b 96) (and-l (not (eqb b 96)) (not (eqb b 34) && printable b) e) in
+    let h = not-true (eqb b 34) (and-l (not (eqb b 34)) (printable b) (and-r (not (eqb b 96)) (not (eqb b 34) && printable b) e)) in
     simp (g, h)
 sign-end true (quotedEscaped b) e r = refl
 
@@ -132,7 +133,7 @@ good-clean q (x ∷ w) e =
     (good-clean (turn q x) w (and-r (okSign q x) (good (turn q x) w) e))
 
 sign-solid : (q : Bool) (x : Sign) → okSign q x ≡ true → isGap x ≡ false
-sign-solid false (bare b) e = neg (eqb b 32) (and-l (not (eqb b 32)) (okQuoted b) e)
+sign-solid false (bare b) e = not-true (eqb b 32) (and-l (not (eqb b 32)) (okQuoted b) e)
 sign-solid true (bare b) e = cc
 sign-solid q (escaped b) e = refl
 sign-solid q quote e = refl

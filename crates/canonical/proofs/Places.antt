@@ -7,7 +7,7 @@ use mathlib.Core.Option.{Option, none, some}
 use native.Mathlib.Omega.{arith}
 use lib.ListN.{length, drop, getD}
 use lib.Dec.{eqb, leb, ltb}
-use borrow.Author.Tests.{eqb-true, eqb-false, eq-eqb, ne-eqb}
+use borrow.Author.Tests.{eqb-true, eqb-false, eq-eqb, ne-eqb, not-true}
 use Rattle.canonical.specs.Canonical.{bares, escapes, writeMore, writePlace}
 use Rattle.forms.specs.Forms.{hasEq, isKeep, isLevel, isMark, isPlace, starts}
 use Rattle.forms.specs.Targets.{isSeparator}
@@ -20,7 +20,7 @@ use Rattle.canonical.proofs.Lexing.{okBare, okSign, turn, good}
 use Rattle.canonical.proofs.Frame.{cleanSign, word}
 use Rattle.canonical.proofs.Values.{good-bares, raws-bares, none-bares, starts-none}
 use Rattle.canonical.proofs.Targets.{okWritten, digit-segment, okSegment, digits-of, same-all}
-use Rattle.text.proofs.Basics.{and-l, and-r, and-in, or-l, or-r, no-case, or-case, neg, all-mono}
+use Rattle.text.proofs.Basics.{and-l, and-r, and-in, or-l, or-r, no-case, or-case, all-mono}
 
 -- ---- bare texts
 
@@ -233,7 +233,7 @@ verb-ok s n h =
     record {
       again = is-number (verbOf (verbName n)) n a;
       bytesOk = and-r (not (isNil (verbName n))) (allOf okWritten (verbName n)) b;
-      isSome = neg (isNil (verbName n)) (and-l (not (isNil (verbName n))) (allOf okWritten (verbName n)) b);
+      isSome = not-true (isNil (verbName n)) (and-l (not (isNil (verbName n))) (allOf okWritten (verbName n)) b);
     }
 
 pub record OptionOk (n : ℕ) : Type 0 where

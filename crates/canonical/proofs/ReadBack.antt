@@ -7,7 +7,7 @@ use mathlib.Core.Option.{Option, none, some}
 use native.Mathlib.Omega.{arith}
 use lib.ListN.{length, drop, getD}
 use lib.Dec.{eqb, leb, ltb}
-use borrow.Author.Tests.{ne-eqb}
+use borrow.Author.Tests.{ne-eqb, not-true}
 use Rattle.canonical.proofs.Frame as frame
 use Rattle.canonical.specs.Canonical.{bares, writeArgument, writeEntry, writeItem, writeOptional, writePlace, writeProperty, writeSaid, writeTarget, writing}
 use Rattle.forms.specs.Forms.{Entry, Property, entriesOf, hasEq, isKeep, isLevel, isName, isPlace, propertyOf, starts, topicOf}
@@ -30,7 +30,7 @@ use Rattle.canonical.proofs.Names.{okSaid, okProperty, okEntry, okOptio
 use Rattle.canonical.proofs.Entries.{entries-again, entries-good, entries-some, entries-ok}
 use Rattle.canonical.proofs.Targets.{okWritten, target-ok}
 use Rattle.canonical.proofs.Places.{written-good, written-eq, written-dash, bares-some, NumberOk, keep-ok, level-ok, place-ok, stands-some, verb-ok, option-ok}
-use Rattle.text.proofs.Basics.{and-l, and-r, and-in, or-l, or-r, no-case, neg, given-some, cond-some}
+use Rattle.text.proofs.Basics.{and-l, and-r, and-in, or-l, or-r, no-case, given-some, cond-some}
 
 -- what a decision was made from
 pub record Made {A : Type 0} (o : Option A) (f : A → Item) (i : Item) : Type 0 where
@@ -151,7 +151,7 @@ argument-ok Place t a h c =
     let s = cond-some (isPlace t) (some (text (stands t))) a h in
     let z : a ≡ text (stands t) = cc (s .1) in
     rw z
-    (place-back (stands t) (stands-some t (neg (isNil t) (and-l (not (isNil t)) (allOf cleanSign t) c)) (s .0)) (stands-clean t (and-r (not (isNil t)) (allOf cleanSign t) c)))
+    (place-back (stands t) (stands-some t (not-true (isNil t) (and-l (not (isNil t)) (allOf cleanSign t) c)) (s .0)) (stands-clean t (and-r (not (isNil t)) (allOf cleanSign t) c)))
 argument-ok Entries t a h c =
     let g = given-some (entriesOf t) (λ es. some (items es)) a h in
     let z : a ≡ items (g .what) = cc (g .gives) in

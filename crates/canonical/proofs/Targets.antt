@@ -7,7 +7,7 @@ use mathlib.Core.Option.{Option, none, some}
 use native.Mathlib.Omega.{arith}
 use lib.ListN.{length, drop, getD, length-append, length-map}
 use lib.Dec.{eqb, leb, ltb}
-use borrow.Author.Tests.{eqb-true, eqb-false, eq-eqb, ne-eqb, le-leb, lt-leb, leb-true, leb-false}
+use borrow.Author.Tests.{eqb-true, eqb-false, eq-eqb, ne-eqb, le-leb, lt-leb, leb-true, leb-false, not-true}
 use Rattle.canonical.specs.Canonical.{bares, escapes, lead, writeMore, writePlace, writeTarget}
 use Rattle.forms.specs.Forms.{hasEq, isKeep, isLevel, isMark, isPlace, starts}
 use Rattle.forms.specs.Targets.{Target, areSegments, isNumbered, isSegment, isSeparator, isStarred, isTagLen, path, pathOf, segmentsOf, session, tagLen, targetOf}
@@ -19,7 +19,7 @@ use Rattle.text.specs.Lists.{allOf, anyOf, between, each, every, given, isNil, 
 use Rattle.canonical.proofs.Lexing.{okBare, good}
 use Rattle.canonical.proofs.Frame.{cleanSign}
 use Rattle.canonical.proofs.Values.{WordByte, letter-byte, digit-byte, byte-ok, good-bares, raws-bares, stands-clean}
-use Rattle.text.proofs.Basics.{and-l, and-r, and-in, or-l, or-r, either, no-case, same-eq, same-refl, all-append, parts-between, or-case, neg, all-mono, cond-some}
+use Rattle.text.proofs.Basics.{and-l, and-r, and-in, or-l, or-r, either, no-case, same-eq, same-refl, all-append, parts-between, or-case, all-mono, cond-some}
 use Rattle.words.specs.Words.{sessionName}
 
 -- ---- bytes of segments: bare, no `=`, no `-`; and no separator
@@ -123,7 +123,7 @@ unfolding allOf anyOf
 none-separator [] e = refl
 none-separator (b ∷ s) e =
     let h = and-l (okSegment b) (allOf okSegment s) e in
-    simp (neg (isSeparator b) (and-r (okWritten b) (not (isSeparator b)) h), none-separator s (and-r (okSegment b) (allOf okSegment s) e))
+    simp (not-true (isSeparator b) (and-r (okWritten b) (not (isSeparator b)) h), none-separator s (and-r (okSegment b) (allOf okSegment s) e))
 
 parts-solid : (ss : List (List ℕ)) → allOf okPart ss ≡ true → allOf (λ w. not (anyOf isSeparator w)) ss ≡ true
 unfolding allOf
@@ -172,7 +172,7 @@ path-made true ((b ∷ s) ∷ ss) e h =
     }
 path-made false ((b ∷ s) ∷ ss) e h =
     let o = and-l (okSegment b) (allOf okSegment s) (and-l (okPart (b ∷ s)) (allOf okPart ss) (segments-ok ((b ∷ s) ∷ ss) e)) in
-    let n = neg (isSeparator b) (and-r (okWritten b) (not (isSeparator b)) o) in
+    let n = not-true (isSeparator b) (and-r (okWritten b) (not (isSeparator b)) o) in
     record {
       again = rw n (segments-again false (b ∷ s) ss e h);
       bytesOk = between-written ((b ∷ s) ∷ ss) (segments-ok ((b ∷ s) ∷ ss) e);

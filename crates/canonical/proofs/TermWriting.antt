@@ -11,7 +11,7 @@ use lib.Dec.{eqb, leb}
 use borrow.Author.Tests.{eqb-true, eq-eqb, ne-eqb, eqb-false}
 use Rattle.text.specs.Bytes.{bytes, oneOf, sameBytes, isWord}
 use Rattle.text.specs.Lists.{allOf, anyOf, onto, parts, each, between, isNil, given}
-use Rattle.text.proofs.Basics.{and-l, and-r, or-l, or-r, or-case, neg, no-case, none-some, same-some, same-eq, Given, given-some, cond-some, parts-some}
+use Rattle.text.proofs.Basics.{and-l, and-r, or-l, or-r, or-case, no-case, none-some, same-some, same-eq, Given, given-some, cond-some, parts-some}
 use Rattle.text.proofs.Scans.{drop-step}
 use Rattle.terms.specs.declared.Mode.{Mode}
 use Rattle.terms.specs.declared.Mode.the-variants.{Out, OutGrave, In, InGrave}

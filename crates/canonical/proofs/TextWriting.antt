@@ -8,10 +8,10 @@ use mathlib.Core.Option.{Option, none, some}
 use native.Mathlib.Omega.{arith}
 use lib.ListN.{length, drop}
 use lib.Dec.{eqb, leb}
-use borrow.Author.Tests.{eqb-true, ne-eqb}
+use borrow.Author.Tests.{eqb-true, ne-eqb, not-true}
 use Rattle.text.specs.Bytes.{bytes, oneOf, isWord}
 use Rattle.text.specs.Lists.{allOf, anyOf, upTo, past, onto, parts, each, between, isNil, given, every}
-use Rattle.text.proofs.Basics.{and-l, and-r, or-l, or-r, neg, no-case, none-some, same-some, Given, given-some, cond-some, parts-some, between-parts, any-append}
+use Rattle.text.proofs.Basics.{and-l, and-r, or-l, or-r, no-case, none-some, same-some, Given, given-some, cond-some, parts-some, between-parts, any-append}
 use Rattle.terms.specs.Signs.{Sign, bare, escaped, quote, quoted, quotedEscaped, raw, raws, standsFor, stands, isBare}
 use Rattle.forms.specs.Forms.{starts, hasEq, isName, isPlainSign, endsQuote, isText, Value, one, many, itemsIn, isList, listOf, textOf, valueOf, Entry, entry, entryOf, entryParts, entriesOf, Said, alone, equals, matches, saidOf, Property, property, propertyOf, topicOf}
 use Rattle.canonical.specs.Canonical.{bares, writeText, writeTexts, writeValue, writeOptional, writeEntry, writeSaid, writeProperty}
@@ -71,7 +71,7 @@ equal-parts = refl
 plain-one : (x : Sign) → isPlainSign x ≡ true → parting x ≡ false
 unfolding isPlainSign parting oneOf bytes
 plain-one (bare b) h =
-    let a = neg (oneOf (bytes "\",()=") b) h in
+    let a = not-true (oneOf (bytes "\",()=") b) h in
     let b1 = or-r (eqb b 34) (eqb b 44 || (eqb b 40 || (eqb b 41 || (eqb b 61 || false)))) a in
     let b2 = or-r (eqb b 44) (eqb b 40 || (eqb b 41 || (eqb b 61 || false))) b1 in
     let b3 = or-r (eqb b 40) (eqb b 41 || (eqb b 61 || false)) b2 in

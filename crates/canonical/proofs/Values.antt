@@ -7,14 +7,14 @@ use mathlib.Core.Option.{Option, none, some}
 use native.Mathlib.Omega.{arith}
 use lib.ListN.{length, drop, length-append, length-map}
 use lib.Dec.{eqb, leb, ltb}
-use borrow.Author.Tests.{eqb-true, eqb-false, eq-eqb, ne-eqb, le-leb, lt-leb, leb-true, leb-false}
+use borrow.Author.Tests.{eqb-true, eqb-false, eq-eqb, ne-eqb, le-leb, lt-leb, leb-true, leb-false, not-true}
 use Rattle.canonical.specs.Canonical.{bares, closing, inQuotes, writeText, writeTexts, writeValue}
 use Rattle.forms.specs.Forms.{Value, endsQuote, isList, isName, isPlainSign, isText, itemsIn, listOf, many, one, starts, textOf, valueOf}
 use Rattle.terms.specs.Signs.{Sign, bare, escaped, isBare, quote, quoted, quotedEscaped, raw, raws, stands, standsFor, twelve, two}
 use Rattle.terms.specs.Terms.{isGap}
 use Rattle.text.specs.Bytes.{bytes, isDigit, isLetter, isWord, oneOf, printable}
 use Rattle.text.specs.Lists.{allOf, anyOf, between, each, given, isNil, onto, parts, past, upTo}
-use Rattle.text.proofs.Basics.{and-l, and-r, and-in, or-l, or-r, either, no-case, all-append, all-up, all-past, parts-all, parts-between, up-at, past-at, any-at, any-append, or-case, neg, all-mono, any-each, any-between, parts-some}
+use Rattle.text.proofs.Basics.{and-l, and-r, and-in, or-l, or-r, either, no-case, all-append, all-up, all-past, parts-all, parts-between, up-at, past-at, any-at, any-append, or-case, all-mono, any-each, any-between, parts-some}
 use Rattle.canonical.proofs.Lexing.{okBare, okQuoted, okSign, turn, good}
 use Rattle.canonical.proofs.Frame.{cleanSign}
 use Rattle.text.proofs.Classes.{within-low, within-high}
@@ -89,7 +89,7 @@ pub none-bares : (k : ℕ) (s : List ℕ) → allOf (λ b. not (eqb b k)) s ≡ 
 unfolding anyOf bares allOf
 none-bares k [] e = refl
 none-bares k (b ∷ s) e =
-    simp (neg (eqb b k) (and-l (not (eqb b k)) (allOf (λ x. not (eqb x k)) s) e), none-bares k s (and-r (not (eqb b k)) (allOf (λ x. not (eqb x k)) s) e))
+    simp (not-true (eqb b k) (and-l (not (eqb b k)) (allOf (λ x. not (eqb x k)) s) e), none-bares k s (and-r (not (eqb b k)) (allOf (λ x. not (eqb x k)) s) e))
 
 -- a byte that is no word byte stands in no word
 pub not-word : (k : ℕ) → isWord k ≡ false → (b : ℕ) → isWord b ≡ true → not (eqb b k) ≡ true
@@ -178,7 +178,7 @@ unfolding writeText
 text-case P s f g = go (isPlainText s) refl
   where
     go : (x : Bool) → isPlainText s ≡ x → P (writeText s)
-    go true p = rw p (f (neg (isNil s) (and-l (not (isNil s)) (allOf isWord s) p)) (and-r (not (isNil s)) (allOf isWord s) p))
+    go true p = rw p (f (not-true (isNil s) (and-l (not (isNil s)) (allOf isWord s) p)) (and-r (not (isNil s)) (allOf isWord s) p))
     go false p = rw p g
 
 pub text-good : (s : List ℕ) (w : List Sign) → allOf printable s ≡ true → good false (writeText s ++ w) ≡ good false w

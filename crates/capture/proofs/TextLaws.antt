@@ -30,6 +30,7 @@ use Rattle.words.specs.Words.{bodies, bodyOf}
 use Rattle.capture.specs.Answers.{Told, wrote, refuses}
 use Rattle.capture.specs.Words.{Form, form, forms, formOf, total, fieldOf, fieldsText, recordText, then, onForm, textFrom, textOf, textAnswer, textRoom}
 use Rattle.capture.specs.Steps.{isForm, wordBy, fieldsBy, bodyBy, lenBy, textBy, firstText, fieldText, rowFields, textAt, flawIn, textIn, answerFrom, answerPast, verdictBy}
+use Rattle.text.proofs.Scans.{drop-step}
 
 -- ---- kinds
 
@@ -174,9 +175,6 @@ unfolding fieldsText
 fields-short [] s = omega arith
 fields-short (w ∷ ws) s =
     omega (arith, field-length (fieldOf w s), length-append (digits (fieldOf w s)) (fieldsText ws (drop w s)), fields-short ws (drop w s))
-
-drop-step : (l : List ℕ) (i : ℕ) → i < length l → drop i l ≡ getD l i 0 ∷ drop (i + 1) l
-drop-step l i h = rw (add-one, drop-cons l i 0)
 
 module _ (ws : List ℕ) (j : ℕ) where
   pub row-end : j < length ws → getD ws j 0 ≡ 0 → rowFields (drop j ws) ≡ []

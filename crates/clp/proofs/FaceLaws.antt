@@ -2,7 +2,7 @@
 use Prim.Native.Nat.{ℕ, _+_, _%_, _<_, _≤_}
 use mathlib.Core.Path.{_≡_, refl, sym, ap, _∙_}
 use mathlib.Core.List.{List}
-use mathlib.Core.Bool.{Bool, true, false, cond, _&&_, true≢false}
+use mathlib.Core.Bool.{Bool, true, false, cond, _&&_, true≢false, and-false}
 use native.Mathlib.Omega.{arith}
 use borrow.Author.Tests.{lt-ltb, le-ltb, ltb-true, ltb-false, eqb-true}
 use lib.ListN.{length}
@@ -180,10 +180,6 @@ pub no-state : (n : ℕ) (b p : List ℕ) → ((s : Joiner) → reachable s ≡ 
     → (joinFace n b p ≡ noCall n) × (joinBuffer n b p ≡ b) × (endFace n ≡ told 19 0)
 no-state n b p never = go (ltb n 16384) (reachable (stateOf n)) refl refl
   where
-    both : (t : Bool) → t && false ≡ false
-    both true = refl
-    both false = refl
-
     go : (t u : Bool) → ltb n 16384 ≡ t → reachable (stateOf n) ≡ u
         → (joinFace n b p ≡ noCall n) × (joinBuffer n b p ≡ b) × (endFace n ≡ told 19 0)
     go false u e f =
@@ -191,7 +187,7 @@ no-state n b p never = go (ltb n 16384) (reachable (stateOf n)) refl refl
         (sym (none-join n h b p), sym (none-buffer n h b p), sym (none-end n h))
     go true true e f = absurd (never (stateOf n) f (number-back n (ltb-true n 16384 e)))
     go true false e f =
-        let r = unfit n b p (rw f (both (eqb (length b) 1024))) in
+        let r = unfit n b p (rw f (and-false (eqb (length b) 1024))) in
         (r .0, r .1, unfit-end n e f)
 
 -- the same of a lister, and of a room below 399 bytes

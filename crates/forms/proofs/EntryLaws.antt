@@ -2,7 +2,7 @@
 use Prim.Native.Nat.{ℕ, zero, suc, _+_, _-_, _<_, _≤_, min}
 use mathlib.Core.Path.{_≡_, refl, sym, ap, _∙_}
 use mathlib.Core.List.{List, [], _∷_, _++_, map}
-use mathlib.Core.Bool.{Bool, true, false, cond, not, _&&_, _||_}
+use mathlib.Core.Bool.{Bool, true, false, cond, not, _&&_, _||_, and-false, and-true}
 use mathlib.Core.Option.{Option, none, some}
 use native.Mathlib.Omega.{arith}
 use native.Mathlib.Numerals.{add-one}
@@ -12,7 +12,7 @@ use lib.Dec.{eqb, leb}
 use borrow.Author.Tests.{eqb-true, eqb-false, ne-eqb}
 use Rattle.text.specs.Bytes.{bytes, oneOf}
 use Rattle.text.specs.Lists.{anyOf, upTo, parts, onto, isNil, given, every}
-use Rattle.text.proofs.Basics.{and-false, or-l, or-r, no-case}
+use Rattle.text.proofs.Basics.{or-l, or-r, no-case}
 use Rattle.text.proofs.Slices.{part-from, drop-take}
 use Rattle.text.proofs.Scans.{drop-step}
 use Rattle.terms.specs.declared.Mode.{Mode}
@@ -25,6 +25,7 @@ use Rattle.forms.specs.Steps.{bareAt, endsItem, itemLen, isEntryIn}
 use Rattle.forms.proofs.Lists.{taken-step}
 use Rattle.forms.proofs.TextLaws.{no-comma, no-open, no-close, items-close, items-comma, items-other, items-some}
 use Rattle.forms.proofs.PropertyLaws.{taken-part}
+use Rattle.terms.proofs.ByteCases.{gives-case}
 
 -- ---- the items of display and output
 
@@ -40,29 +41,15 @@ onto-cons (x ∷ a) p ps = ap (onto x) (onto-cons a p ps)
 
 byte-parts : (m : Mode) (l : Bool) (b : ℕ) (r : List Sign) → isComma m l b ≡ false
     → entryParts l (gives m b ++ r) ≡ ontoAll (gives m b) (entryParts (opened m l b) r)
-unfolding gives entryParts ontoAll
-byte-parts Out l b r e = go (eqb b 96) (eqb b 34) refl refl
-  where
-    go : (x y : Bool) → eqb b 96 ≡ x → eqb b 34 ≡ y → entryParts l (gives Out b ++ r) ≡ ontoAll (gives Out b) (entryParts (opened Out l b) r)
-    go true y p q = let z = eqb-true b 96 p in simp (p, ne-eqb b 40 (λ k. omega arith), ne-eqb b 41 (λ k. omega arith))
-    go false true p q = let z = eqb-true b 34 q in simp (p, q, ne-eqb b 40 (λ k. omega arith), ne-eqb b 41 (λ k. omega arith), and-false (not l))
-    go false false p q = simp (p, q, e)
-byte-parts OutGrave l b r e = go (oneOf twelve b) refl
-  where
-    go : (x : Bool) → oneOf twelve b ≡ x → entryParts l (gives OutGrave b ++ r) ≡ ontoAll (gives OutGrave b) (entryParts l r)
-    go true p = simp (p, and-false (not l))
-    go false p = simp (p, no-comma b p, no-open b p, no-close b p, and-false (not l))
-byte-parts In l b r e = go (eqb b 96) (eqb b 34) refl refl
-  where
-    go : (x y : Bool) → eqb b 96 ≡ x → eqb b 34 ≡ y → entryParts l (gives In b ++ r) ≡ ontoAll (gives In b) (entryParts l r)
-    go true y p q = simp p
-    go false true p q = simp (p, q, and-false (not l))
-    go false false p q = simp (p, q, and-false (not l))
-byte-parts InGrave l b r e = go (oneOf two b) refl
-  where
-    go : (x : Bool) → oneOf two b ≡ x → entryParts l (gives InGrave b ++ r) ≡ ontoAll (gives InGrave b) (entryParts l r)
-    go true p = simp (p, and-false (not l))
-    go false p = simp (p, and-false (not l))
+unfolding entryParts ontoAll
+byte-parts m l b r =
+    gives-case (λ k g n. isComma k l b ≡ false → entryParts l (g ++ r) ≡ ontoAll g (entryParts (opened k l b) r)) b
+    (λ p e. let z = eqb-true b 96 p in simp (ne-eqb b 40 (λ k. omega arith), ne-eqb b 41 (λ k. omega arith)))
+    (λ _ q e. let z = eqb-true b 34 q in simp (ne-eqb b 40 (λ k. omega arith), ne-eqb b 41 (λ k. omega arith), and-false (not l)))
+    (λ _ _ e. simp e)
+    (λ _ e. simp (and-false (not l)))
+    (λ p e. simp (no-comma b p, no-open b p, no-close b p, and-false (not l)))
+    (λ _ e. refl) (λ _ _ e. simp (and-false (not l))) (λ _ _ e. simp (and-false (not l))) (λ _ e. simp (and-false (not l))) (λ _ e. simp (and-false (not l))) m
 
 end-parts : (m : Mode) (l : Bool) → entryParts l (atEnd m) ≡ atEnd m ∷ []
 unfolding entryParts
@@ -136,11 +123,7 @@ module _ (u : List ℕ) (k : ℕ) (e : k ≡ entryLen Out false u) where
   pub entries-one : length u ≤ k → isSome (entriesOf (signs Out u)) ≡ isSome (entryOf (signs Out (take k u)))
   unfolding entriesOf
   entries-one h =
-      ap (λ z. isSome (every (map entryOf z))) (parts-one u k e h) ∙ some-every (entryOf (signs Out (take k u))) [] ∙ unfold every in go (isSome (entryOf (signs Out (take k u))))
-    where
-      go : (b : Bool) → b && true ≡ b
-      go true = refl
-      go false = refl
+      ap (λ z. isSome (every (map entryOf z))) (parts-one u k e h) ∙ some-every (entryOf (signs Out (take k u))) [] ∙ unfold every in and-true (isSome (entryOf (signs Out (take k u))))
 
   pub entries-more : k < length u
       → isSome (entriesOf (signs Out u)) ≡ isSome (entryOf (signs Out (take k u))) && isSome (entriesOf (signs Out (drop (k + 1) u)))
@@ -243,29 +226,14 @@ afterItem [] = []
 afterItem (c ∷ r) = cond (eqb c 44) (itemsIn (signs Out r)) []
 
 byte-items : (m : Mode) (b : ℕ) (r : List Sign) → endsItem m b ≡ false → itemsIn (gives m b ++ r) ≡ ontoAll (gives m b) (itemsIn r)
-unfolding gives ontoAll
-byte-items Out b r e = go (eqb b 96) (eqb b 34) refl refl
-  where
-    go : (x y : Bool) → eqb b 96 ≡ x → eqb b 34 ≡ y → itemsIn (gives Out b ++ r) ≡ ontoAll (gives Out b) (itemsIn r)
-    go true y p q = simp p
-    go false true p q = simp (p, q) (items-other quote r refl refl)
-    go false false p q = simp (p, q) (items-other (bare b) r (or-r (eqb b 44) (eqb b 41) e) (or-l (eqb b 44) (eqb b 41) e))
-byte-items OutGrave b r e = go (oneOf twelve b) refl
-  where
-    go : (x : Bool) → oneOf twelve b ≡ x → itemsIn (gives OutGrave b ++ r) ≡ ontoAll (gives OutGrave b) (itemsIn r)
-    go true p = simp p (items-other (escaped b) r refl refl)
-    go false p = simp p (items-other (bare 96) (bare b ∷ r) refl refl ∙ ap (onto (bare 96)) (items-other (bare b) r (no-close b p) (no-comma b p)))
-byte-items In b r e = go (eqb b 96) (eqb b 34) refl refl
-  where
-    go : (x y : Bool) → eqb b 96 ≡ x → eqb b 34 ≡ y → itemsIn (gives In b ++ r) ≡ ontoAll (gives In b) (itemsIn r)
-    go true y p q = simp p
-    go false true p q = simp (p, q) (items-other quote r refl refl)
-    go false false p q = simp (p, q) (items-other (quoted b) r refl refl)
-byte-items InGrave b r e = go (oneOf two b) refl
-  where
-    go : (x : Bool) → oneOf two b ≡ x → itemsIn (gives InGrave b ++ r) ≡ ontoAll (gives InGrave b) (itemsIn r)
-    go true p = simp p (items-other (quotedEscaped b) r refl refl)
-    go false p = simp p (items-other (quoted 96) (quoted b ∷ r) refl refl ∙ ap (onto (quoted 96)) (items-other (quoted b) r refl refl))
+unfolding ontoAll
+byte-items m b r =
+    gives-case (λ k g n. endsItem k b ≡ false → itemsIn (g ++ r) ≡ ontoAll g (itemsIn r)) b (λ _ e. refl) (λ _ _ e. items-other quote r refl refl)
+    (λ _ _ e. items-other (bare b) r (or-r (eqb b 44) (eqb b 41) e) (or-l (eqb b 44) (eqb b 41) e))
+    (λ _ e. items-other (escaped b) r refl refl)
+    (λ p e. items-other (bare 96) (bare b ∷ r) refl refl ∙ ap (onto (bare 96)) (items-other (bare b) r (no-close b p) (no-comma b p)))
+    (λ _ e. refl) (λ _ _ e. items-other quote r refl refl) (λ _ _ e. items-other (quoted b) r refl refl) (λ _ e. items-other (quotedEscaped b) r refl refl)
+    (λ _ e. items-other (quoted 96) (quoted b ∷ r) refl refl ∙ ap (onto (quoted 96)) (items-other (quoted b) r refl refl)) m
 
 end-items : (m : Mode) → itemsIn (atEnd m) ≡ atEnd m ∷ []
 unfolding itemsIn upTo parts

@@ -18,6 +18,7 @@ use Rattle.forms.specs.Forms.{isText, itemsIn, isList}
 use Rattle.forms.specs.Steps.{bareAt, endsItem, itemLen}
 use Rattle.forms.proofs.TextLaws.{no-close}
 use Rattle.forms.proofs.EntryLaws.{item-within}
+use Rattle.terms.proofs.ByteCases.{gives-case}
 
 -- has it a bare closing parenthesis?
 unfoldable pub closed : Mode → List ℕ → Bool
@@ -28,29 +29,10 @@ closedAfter [] = false
 closedAfter (c ∷ r) = cond (eqb c 44) (closed Out r) true
 
 byte-closed : (m : Mode) (b : ℕ) (r : List Sign) → endsItem m b ≡ false → anyOf (isBare 41) (gives m b ++ r) ≡ anyOf (isBare 41) r
-unfolding gives anyOf
-byte-closed Out b r e = go (eqb b 96) (eqb b 34) refl refl
-  where
-    go : (x y : Bool) → eqb b 96 ≡ x → eqb b 34 ≡ y → anyOf (isBare 41) (gives Out b ++ r) ≡ anyOf (isBare 41) r
-    go true y p q = simp p
-    go false true p q = simp (p, q)
-    go false false p q = simp (p, q, or-r (eqb b 44) (eqb b 41) e)
-byte-closed OutGrave b r e = go (oneOf twelve b) refl
-  where
-    go : (x : Bool) → oneOf twelve b ≡ x → anyOf (isBare 41) (gives OutGrave b ++ r) ≡ anyOf (isBare 41) r
-    go true p = simp p
-    go false p = simp (p, no-close b p)
-byte-closed In b r e = go (eqb b 96) (eqb b 34) refl refl
-  where
-    go : (x y : Bool) → eqb b 96 ≡ x → eqb b 34 ≡ y → anyOf (isBare 41) (gives In b ++ r) ≡ anyOf (isBare 41) r
-    go true y p q = simp p
-    go false true p q = simp (p, q)
-    go false false p q = simp (p, q)
-byte-closed InGrave b r e = go (oneOf two b) refl
-  where
-    go : (x : Bool) → oneOf two b ≡ x → anyOf (isBare 41) (gives InGrave b ++ r) ≡ anyOf (isBare 41) r
-    go true p = simp p
-    go false p = simp p
+unfolding anyOf
+byte-closed m b r =
+    gives-case (λ k g n. endsItem k b ≡ false → anyOf (isBare 41) (g ++ r) ≡ anyOf (isBare 41) r) b (λ _ e. refl) (λ _ _ e. refl) (λ _ _ e. rw (or-r (eqb b 44) (eqb b 41) e)) (λ _ e. refl)
+    (λ p e. rw (no-close b p)) (λ _ e. refl) (λ _ _ e. refl) (λ _ _ e. refl) (λ _ e. refl) (λ _ e. refl) m
 
 end-closed : (m : Mode) → anyOf (isBare 41) (atEnd m) ≡ false
 unfolding anyOf

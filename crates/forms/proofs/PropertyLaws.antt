@@ -2,29 +2,30 @@
 use Prim.Native.Nat.{ℕ, zero, suc, _+_, _-_, _<_, _≤_, min}
 use mathlib.Core.Path.{_≡_, refl, sym, ap, _∙_}
 use mathlib.Core.List.{List, [], _∷_, _++_, map, append-assoc, append-nil}
-use mathlib.Core.Bool.{Bool, true, false, cond, not, _&&_, _||_}
+use mathlib.Core.Bool.{Bool, true, false, cond, not, _&&_, _||_, and-false}
 use mathlib.Core.Option.{Option, none, some}
 use native.Mathlib.Omega.{arith}
 use native.Mathlib.Numerals.{add-one}
 use lib.ListN.{length, getD, take, drop, length-take, length-drop, drop-of-length-le}
 use lib.Seq.{take-all, split-at, length-take-le, drop-drop, getD-drop, getD-take}
 use lib.Dec.{eqb, leb, ltb}
-use borrow.Author.Tests.{eqb-true, eq-eqb, ne-eqb, le-leb, lt-leb, leb-true, leb-false, lt-ltb, le-ltb, ltb-true}
+use borrow.Author.Tests.{eqb-true, eq-eqb, ne-eqb, le-leb, lt-leb, leb-true, leb-false, lt-ltb, le-ltb, ltb-true, eqb-false}
 use Rattle.text.specs.Bytes.{oneOf, isLetter, isDigit, isWord}
 use Rattle.text.specs.Lists.{allOf, anyOf, upTo, past, runLen, given}
-use Rattle.text.proofs.Basics.{and-l, and-r, and-false, or-l, or-r, no-case, none-some, all-mono, up-at, past-at, any-at}
-use Rattle.text.proofs.Classes.{word-bounds, letter-word, other-byte}
-use Rattle.text.proofs.Scans.{run-within, run-all, all-run, take-run, drop-step}
+use Rattle.text.proofs.Basics.{and-l, and-r, no-case, up-over, up-at, past-at, any-at, all-right}
+use Rattle.text.proofs.Classes.{letter-word}
+use Rattle.text.proofs.Scans.{run-within, all-run, run-fails, take-run, drop-step}
 use Rattle.terms.specs.declared.Mode.{Mode}
 use Rattle.terms.specs.declared.Mode.the-variants.{Out, OutGrave, In, InGrave}
-use Rattle.terms.specs.Signs.{Sign, bare, escaped, quote, quoted, quotedEscaped, isBare, twelve, after, gives, atEnd, signs, raw, raws}
-use Rattle.terms.proofs.TermLaws.{raws-signs}
+use Rattle.terms.specs.Signs.{Sign, bare, escaped, quote, quoted, quotedEscaped, isBare, twelve, after, gives, atEnd, signs, raw, raws, bares}
+use Rattle.terms.proofs.TermLaws.{raws-signs, raws-append, bare-signs, bares-signs, raws-bares, none-bares}
+use Rattle.terms.proofs.ByteCases.{out-case, grave-first}
 use Rattle.forms.specs.declared.Shape.{Shape}
 use Rattle.forms.specs.declared.Shape.the-variants as shape
 use Rattle.forms.specs.Forms.{starts, isName, hasEq, Value, valueOf, Said, alone, equals, matches, saidOf, Property, property, propertyOf, topicOf, Entry, entry, entryOf}
 use Rattle.forms.specs.Answers.{isSome, operatorOf, shapeOf, textIn, propertyIn, topicIn, isValueIn}
 use Rattle.forms.specs.Steps.{nameLen, equalAt, shapeIf, isEntryIn}
-use Rattle.forms.proofs.ValueLaws.{starts-byte, equal-signs, value-part, first-taken}
+use Rattle.forms.proofs.ValueLaws.{starts-byte, value-part, first-taken}
 
 -- ---- names
 
@@ -68,17 +69,6 @@ name-by : (t : List ℕ) → nameLen t ≡ cond (isName (take (runLen isWord t) 
 unfolding nameLen
 name-by t = ap (λ x. cond x (runLen isWord t) 0) (sym (run-name t))
 
--- where a run ends
-run-stop : (f : ℕ → Bool) (t : List ℕ) → runLen f t < length t → f (getD t (runLen f t) 0) ≡ false
-unfolding runLen
-run-stop f [] h = absurd (omega arith)
-run-stop f (b ∷ s) h = go (f b) refl h (run-stop f s)
-  where
-    go : (x : Bool) → f b ≡ x → cond x (suc (runLen f s)) 0 < suc (length s) → (runLen f s < length s → f (getD s (runLen f s) 0) ≡ false)
-        → f (getD (b ∷ s) (cond x (suc (runLen f s)) 0) 0) ≡ false
-    go true e k ih = ih (omega arith)
-    go false e k ih = e
-
 -- a text that begins with a name of k bytes, and no more of its kind
 pub record Named (t : List ℕ) (k : ℕ) : Type 0 where
   pub name : isName (take k t) ≡ true
@@ -100,7 +90,7 @@ named t k e h = go (isName (take (runLen isWord t) t)) refl
           words = name-words (take k t) s;
           within = omega arith;
           some = let z = name-some (take k t) s in let l = length-take k t in omega arith;
-          next = λ z. ap (λ (j : ℕ). isWord (getD t j 0)) r ∙ run-stop isWord t (omega arith);
+          next = λ z. ap (λ (j : ℕ). isWord (getD t j 0)) r ∙ run-fails isWord t 0 (omega arith);
         }
     go false p = absurd (h (e ∙ name-by t ∙ rw p))
 
@@ -130,214 +120,159 @@ name-is t h = go (isName t) refl
 
 -- ---- the signs of letters, digits and underscores, and of whatever follows
 
-pub words-read : (n v : List ℕ) → allOf isWord n ≡ true → signs Out (n ++ v) ≡ map bare n ++ signs Out v
-unfolding signs allOf gives after
-words-read [] v e = refl
-words-read (b ∷ n) v e =
-    let w = and-l (isWord b) (allOf isWord n) e in
-    simp (other-byte isWord 96 b (unfold isWord in refl) w, other-byte isWord 34 b (unfold isWord in refl) w, words-read n v (and-r (isWord b) (allOf isWord n) e))
+pub words-read : (n v : List ℕ) → allOf isWord n ≡ true → signs Out (n ++ v) ≡ bares n ++ signs Out v
+words-read = bares-signs isWord (unfold isWord in refl) (unfold isWord in refl)
 
-pub words-alone : (n : List ℕ) → allOf isWord n ≡ true → signs Out n ≡ map bare n
+pub words-alone : (n : List ℕ) → allOf isWord n ≡ true → signs Out n ≡ bares n
 unfolding signs
-words-alone n e = ap (signs Out) (sym (append-nil n)) ∙ words-read n [] e ∙ append-nil (map bare n)
+words-alone n e = ap (signs Out) (sym (append-nil n)) ∙ words-read n [] e ∙ append-nil (bares n)
 
-pub raws-bare : (s : List ℕ) → raws (map bare s) ≡ s
-unfolding raws
-raws-bare [] = refl
-raws-bare (b ∷ s) = ap (λ z. b ∷ z) (raws-bare s)
+none-bare : (s : List ℕ) → allOf isWord s ≡ true → anyOf (isBare 61) (bares s) ≡ false
+none-bare = none-bares isWord 61 (unfold isWord in refl)
 
-none-bare : (s : List ℕ) → allOf isWord s ≡ true → anyOf (isBare 61) (map bare s) ≡ false
-unfolding anyOf allOf
-none-bare [] e = refl
-none-bare (b ∷ s) e = simp (other-byte isWord 61 b (unfold isWord in refl) (and-l (isWord b) (allOf isWord s) e), none-bare s (and-r (isWord b) (allOf isWord s) e))
-
--- ---- a property by its bytes: n the run of letters, digits and underscores that it begins with
-
--- the run is all of it
-pub property-alone : (n : List ℕ) → allOf isWord n ≡ true → propertyOf (signs Out n) ≡ cond (isName n) (some (property n alone)) none
-unfolding propertyOf
-property-alone n e = ap propertyOf (words-alone n e) ∙ simp (none-bare n e, raws-bare n)
-
-pub entry-alone : (n : List ℕ) → allOf isWord n ≡ true → entryOf (signs Out n) ≡ cond (isName n) (some (entry n none)) none
-unfolding entryOf
-entry-alone n e = ap entryOf (words-alone n e) ∙ simp (none-bare n e, raws-bare n)
-
--- `=` follows
-equal-read : (n v : List ℕ) → allOf isWord n ≡ true → signs Out (n ++ (61 ∷ v)) ≡ map bare n ++ (bare 61 ∷ signs Out v)
-equal-read n v e = words-read n (61 ∷ v) e ∙ ap (λ z. map bare n ++ z) (equal-signs v)
-
-pub property-equal : (n v : List ℕ) → allOf isWord n ≡ true
-    → propertyOf (signs Out (n ++ (61 ∷ v))) ≡ cond (isName n) (given (saidOf (signs Out v)) (λ s. some (property n s))) none
-unfolding propertyOf
-property-equal n v e =
-    let w = none-bare n e in
-    ap propertyOf (equal-read n v e)
-    ∙ simp (
-      any-at (isBare 61) (map bare n) (bare 61) (signs Out v) refl,
-      up-at (isBare 61) (map bare n) (bare 61) (signs Out v) w refl,
-      past-at (isBare 61) (map bare n) (bare 61) (signs Out v) w refl,
-      raws-bare n,
-    )
-
-pub entry-equal : (n v : List ℕ) → allOf isWord n ≡ true
-    → entryOf (signs Out (n ++ (61 ∷ v))) ≡ cond (isName n) (given (valueOf (signs Out v)) (λ w. some (entry n (some w)))) none
-unfolding entryOf
-entry-equal n v e =
-    let w = none-bare n e in
-    ap entryOf (equal-read n v e)
-    ∙ simp (
-      any-at (isBare 61) (map bare n) (bare 61) (signs Out v) refl,
-      up-at (isBare 61) (map bare n) (bare 61) (signs Out v) w refl,
-      past-at (isBare 61) (map bare n) (bare 61) (signs Out v) w refl,
-      raws-bare n,
-    )
-
--- anything else follows
-up-over : (f : Sign → Bool) (a r : List Sign) → anyOf f a ≡ false → upTo f (a ++ r) ≡ a ++ upTo f r
-unfolding anyOf upTo
-up-over f [] r e = refl
-up-over f (x ∷ a) r e = simp (or-l (f x) (anyOf f a) e, up-over f a r (or-r (f x) (anyOf f a) e))
-
-raws-append : (a b : List Sign) → raws (a ++ b) ≡ raws a ++ raws b
-unfolding raws
-raws-append [] b = refl
-raws-append (x ∷ a) b = ap (λ z. raw x ++ z) (raws-append a b) ∙ sym (append-assoc (raw x) (raws a) (raws b))
-
+-- the name before the first bare `=`, where something else follows the run that a text begins with
 grave-up : (v : List ℕ) → (u : List ℕ) × (raws (upTo (isBare 61) (signs OutGrave v)) ≡ 96 ∷ u)
-unfolding signs gives upTo raws after
-grave-up [] = ([], refl)
-grave-up (d ∷ v) = go (oneOf twelve d) refl
-  where
-    go : (x : Bool) → oneOf twelve d ≡ x → (u : List ℕ) × (raws (upTo (isBare 61) (signs OutGrave (d ∷ v))) ≡ 96 ∷ u)
-    go true p = (d ∷ raws (upTo (isBare 61) (signs Out v)), simp p)
-    go false p = (raws (upTo (isBare 61) (bare d ∷ signs Out v)), simp p)
+unfolding upTo raws
+grave-up v =
+    grave-first (λ z. (u : List ℕ) × (raws (upTo (isBare 61) z) ≡ 96 ∷ u)) (λ r. (raws (upTo (isBare 61) r), refl)) (λ b r. (b ∷ raws (upTo (isBare 61) r), refl)) v
 
 first-up : (c : ℕ) (v : List ℕ) → (c ≡ 61 → ⊥) → (u : List ℕ) × (raws (upTo (isBare 61) (signs Out (c ∷ v))) ≡ c ∷ u)
-unfolding signs gives after upTo raws
-first-up c v n = go (eqb c 96) (eqb c 34) refl refl
-  where
-    go : (x y : Bool) → eqb c 96 ≡ x → eqb c 34 ≡ y → (u : List ℕ) × (raws (upTo (isBare 61) (signs Out (c ∷ v))) ≡ c ∷ u)
-    go true y p q = let g = grave-up v in (g .0, simp p (g .1 ∙ ap (λ z. z ∷ g .0) (sym (eqb-true c 96 p))))
-    go false true p q = (raws (upTo (isBare 61) (signs In v)), simp (p, q) (ap (λ z. z ∷ raws (upTo (isBare 61) (signs In v))) (sym (eqb-true c 34 q))))
-    go false false p q = (raws (upTo (isBare 61) (signs Out v)), simp (p, q, ne-eqb c 61 n))
+unfolding signs upTo raws
+first-up c v n =
+    out-case (λ g m. (u : List ℕ) × (raws (upTo (isBare 61) (g ++ signs m v)) ≡ c ∷ u)) c (λ p. let g = grave-up v in (g .0, g .1 ∙ ap (λ z. z ∷ g .0) (sym (eqb-true c 96 p))))
+    (λ _ q. (raws (upTo (isBare 61) (signs In v)), ap (λ z. z ∷ raws (upTo (isBare 61) (signs In v))) (sym (eqb-true c 34 q))))
+    (λ _ _. (raws (upTo (isBare 61) (signs Out v)), simp (ne-eqb c 61 n)))
 
 not-name : (n : List ℕ) (c : ℕ) (v : List ℕ) → isWord c ≡ false → isName (n ++ (c ∷ v)) ≡ false
 not-name n c v e = go (isName (n ++ (c ∷ v))) refl
   where
-    at : (n : List ℕ) → allOf isWord (n ++ (c ∷ v)) ≡ true → isWord c ≡ true
-    at [] k = unfold allOf in and-l (isWord c) (allOf isWord v) k
-    at (b ∷ n) k = at n (unfold allOf in and-r (isWord b) (allOf isWord (n ++ (c ∷ v))) k)
-
     go : (x : Bool) → isName (n ++ (c ∷ v)) ≡ x → x ≡ false
-    go true p = no-case (sym (at n (name-words (n ++ (c ∷ v)) p)) ∙ e)
+    go true p = no-case (sym (and-l (isWord c) (allOf isWord v) (unfold allOf in all-right isWord n (c ∷ v) (name-words (n ++ (c ∷ v)) p))) ∙ e)
     go false p = refl
-
-module _ (n : List ℕ) (c : ℕ) (v : List ℕ) (e : allOf isWord n ≡ true) (w : isWord c ≡ false) (d : c ≡ 61 → ⊥) where
-  g : (u : List ℕ) × (raws (upTo (isBare 61) (signs Out (c ∷ v))) ≡ c ∷ u)
-  g = first-up c v d
-
-  up : raws (upTo (isBare 61) (signs Out (n ++ (c ∷ v)))) ≡ n ++ (c ∷ g .0)
-  up =
-      ap (λ z. raws (upTo (isBare 61) z)) (words-read n (c ∷ v) e)
-      ∙ ap raws (up-over (isBare 61) (map bare n) (signs Out (c ∷ v)) (none-bare n e))
-      ∙ raws-append (map bare n) (upTo (isBare 61) (signs Out (c ∷ v)))
-      ∙ ap (λ z. z ++ raws (upTo (isBare 61) (signs Out (c ∷ v)))) (raws-bare n)
-      ∙ ap (λ z. n ++ z) (g .1)
-
-  pub property-other : propertyOf (signs Out (n ++ (c ∷ v))) ≡ none
-  unfolding propertyOf
-  property-other = go (hasEq (signs Out (n ++ (c ∷ v)))) refl
-    where
-      go : (x : Bool) → hasEq (signs Out (n ++ (c ∷ v))) ≡ x → propertyOf (signs Out (n ++ (c ∷ v))) ≡ none
-      go true p = rw (p, up, not-name n c (g .0) w)
-      go false p = rw (p, raws-signs (n ++ (c ∷ v)), not-name n c v w)
-
-  pub entry-other : entryOf (signs Out (n ++ (c ∷ v))) ≡ none
-  unfolding entryOf
-  entry-other = go (hasEq (signs Out (n ++ (c ∷ v)))) refl
-    where
-      go : (x : Bool) → hasEq (signs Out (n ++ (c ∷ v))) ≡ x → entryOf (signs Out (n ++ (c ∷ v))) ≡ none
-      go true p = rw (p, up, not-name n c (g .0) w)
-      go false p = rw (p, raws-signs (n ++ (c ∷ v)), not-name n c v w)
-
--- ---- the same by places of a text t
 
 cut-at : (t : List ℕ) (k : ℕ) → k < length t → t ≡ take k t ++ (getD t k 0 ∷ drop (k + 1) t)
 cut-at t k h = split-at t k 0 h ∙ ap (λ (j : ℕ). take k t ++ (getD t k 0 ∷ drop j t)) (sym (add-one k))
 
+-- ---- a name, and what may follow it after `=`: properties, and the items of display and output, are both of this form
+
+module _ {A B : Type 0} (rest : List Sign → Option B) (mere : List ℕ → A) (with : List ℕ → B → A) where
+  unfoldable namedOf : List Sign → Option A
+  namedOf t =
+      let n = raws (upTo (isBare 61) t) in
+      let withRest = cond (isName n) (given (rest (past (isBare 61) t)) (λ b. some (with n b))) none in
+      cond (hasEq t) withRest (cond (isName (raws t)) (some (mere (raws t))) none)
+
+  -- n is the run of letters, digits and underscores that a text begins with: all of it, before `=`, before anything else
+  named-alone : (n : List ℕ) → allOf isWord n ≡ true → namedOf (signs Out n) ≡ cond (isName n) (some (mere n)) none
+  unfolding namedOf
+  named-alone n e = ap namedOf (words-alone n e) ∙ simp (none-bare n e, raws-bares n)
+
+  named-equal : (n v : List ℕ) → allOf isWord n ≡ true → namedOf (signs Out (n ++ (61 ∷ v))) ≡ cond (isName n) (given (rest (signs Out v)) (λ b. some (with n b))) none
+  unfolding namedOf
+  named-equal n v e =
+      let w = none-bare n e in
+      ap namedOf (words-read n (61 ∷ v) e ∙ ap (λ z. bares n ++ z) (bare-signs 61 v refl refl))
+      ∙ simp (
+        any-at (isBare 61) (bares n) (bare 61) (signs Out v) refl,
+        up-at (isBare 61) (bares n) (bare 61) (signs Out v) w refl,
+        past-at (isBare 61) (bares n) (bare 61) (signs Out v) w refl,
+        raws-bares n,
+      )
+
+  named-other : (n : List ℕ) (c : ℕ) (v : List ℕ) → allOf isWord n ≡ true → isWord c ≡ false → (c ≡ 61 → ⊥) → namedOf (signs Out (n ++ (c ∷ v))) ≡ none
+  unfolding namedOf
+  named-other n c v e w d = go (hasEq (signs Out (n ++ (c ∷ v)))) refl
+    where
+      first : (u : List ℕ) × (raws (upTo (isBare 61) (signs Out (c ∷ v))) ≡ c ∷ u)
+      first = first-up c v d
+
+      up : raws (upTo (isBare 61) (signs Out (n ++ (c ∷ v)))) ≡ n ++ (c ∷ first .0)
+      up =
+          ap (λ z. raws (upTo (isBare 61) z)) (words-read n (c ∷ v) e)
+          ∙ ap raws (up-over (isBare 61) (bares n) (signs Out (c ∷ v)) (none-bare n e))
+          ∙ raws-append (bares n) (upTo (isBare 61) (signs Out (c ∷ v)))
+          ∙ ap (λ z. z ++ raws (upTo (isBare 61) (signs Out (c ∷ v)))) (raws-bares n)
+          ∙ ap (λ z. n ++ z) (first .1)
+
+      go : (x : Bool) → hasEq (signs Out (n ++ (c ∷ v))) ≡ x → namedOf (signs Out (n ++ (c ∷ v))) ≡ none
+      go true p = rw (p, up, not-name n c (first .0) w)
+      go false p = rw (p, raws-signs (n ++ (c ∷ v)), not-name n c v w)
+
+  -- the same by places of a text t that no name begins
+  named-none : (t : List ℕ) → nameLen t ≡ 0 → namedOf (signs Out t) ≡ none
+  named-none t e = go (leb (length t) (runLen isWord t)) (eqb (getD t (runLen isWord t) 0) 61) refl refl
+    where
+      go : (x y : Bool) → leb (length t) (runLen isWord t) ≡ x → eqb (getD t (runLen isWord t) 0) 61 ≡ y → namedOf (signs Out t) ≡ none
+      go true y p q =
+          let a : take (runLen isWord t) t ≡ t = take-all (runLen isWord t) t (leb-true (length t) (runLen isWord t) p) in
+          named-alone t (ap (allOf isWord) (sym a) ∙ take-run isWord t) ∙ rw (ap isName (sym a) ∙ unnamed t e)
+      go false true p q =
+          let h = leb-false (length t) (runLen isWord t) p in
+          let n = take (runLen isWord t) t in
+          let v = drop (runLen isWord t + 1) t in
+          ap (λ z. namedOf (signs Out z)) (cut-at t (runLen isWord t) h)
+          ∙ ap (λ (z : ℕ). namedOf (signs Out (n ++ (z ∷ v)))) (eqb-true (getD t (runLen isWord t) 0) 61 q)
+          ∙ named-equal n v (take-run isWord t) ∙ rw (unnamed t e)
+      go false false p q =
+          let h = leb-false (length t) (runLen isWord t) p in
+          ap (λ z. namedOf (signs Out z)) (cut-at t (runLen isWord t) h)
+          ∙ named-other (take (runLen isWord t) t) (getD t (runLen isWord t) 0) (drop (runLen isWord t + 1) t) (take-run isWord t) (run-fails isWord t 0 h)
+          (eqb-false (getD t (runLen isWord t) 0) 61 q)
+
+  -- a name of k bytes begins it
+  module _ (t : List ℕ) (k : ℕ) (n : Named t k) where
+    named-mere : k ≡ length t → namedOf (signs Out t) ≡ some (mere (take k t))
+    named-mere h =
+        let a : take k t ≡ t = take-all k t (omega arith) in
+        ap (λ z. namedOf (signs Out z)) (sym a) ∙ named-alone (take k t) (n .words) ∙ rw (n .name)
+
+    named-not : k < length t → (getD t k 0 ≡ 61 → ⊥) → namedOf (signs Out t) ≡ none
+    named-not h d = ap (λ z. namedOf (signs Out z)) (cut-at t k h) ∙ named-other (take k t) (getD t k 0) (drop (k + 1) t) (n .words) (n .next h) d
+
+    named-with : k < length t → getD t k 0 ≡ 61 → namedOf (signs Out t) ≡ given (rest (signs Out (drop (k + 1) t))) (λ b. some (with (take k t) b))
+    named-with h d =
+        ap (λ z. namedOf (signs Out z)) (cut-at t k h) ∙ ap (λ (z : ℕ). namedOf (signs Out (take k t ++ (z ∷ drop (k + 1) t)))) d
+        ∙ named-equal (take k t) (drop (k + 1) t) (n .words) ∙ rw (n .name)
+
+-- ---- a property, and an item of display or output, by places of a text t
+
+as-property : (t : List Sign) → propertyOf t ≡ namedOf saidOf (λ n. property n alone) property t
+unfolding propertyOf namedOf
+as-property t = refl
+
+as-entry : (t : List Sign) → entryOf t ≡ namedOf valueOf (λ n. entry n none) (λ n v. entry n (some v)) t
+unfolding entryOf namedOf
+as-entry t = refl
+
 -- no name begins it
-module _ (t : List ℕ) (e : nameLen t ≡ 0) where
-  all-of : length t ≤ runLen isWord t → (isName t ≡ false) × (allOf isWord t ≡ true)
-  all-of h =
-      let a : take (runLen isWord t) t ≡ t = take-all (runLen isWord t) t h in
-      (ap isName (sym a) ∙ unnamed t e, ap (allOf isWord) (sym a) ∙ take-run isWord t)
+pub unnamed-property : (t : List ℕ) → nameLen t ≡ 0 → propertyOf (signs Out t) ≡ none
+unnamed-property t e = as-property (signs Out t) ∙ named-none saidOf (λ n. property n alone) property t e
 
-  pub unnamed-property : propertyOf (signs Out t) ≡ none
-  unnamed-property = go (leb (length t) (runLen isWord t)) (eqb (getD t (runLen isWord t) 0) 61) refl refl
-    where
-      go : (x y : Bool) → leb (length t) (runLen isWord t) ≡ x → eqb (getD t (runLen isWord t) 0) 61 ≡ y → propertyOf (signs Out t) ≡ none
-      go true y p q = let a = all-of (leb-true (length t) (runLen isWord t) p) in property-alone t (a .1) ∙ rw (a .0)
-      go false true p q =
-          let h = leb-false (length t) (runLen isWord t) p in
-          let n = take (runLen isWord t) t in
-          let v = drop (runLen isWord t + 1) t in
-          ap (λ z. propertyOf (signs Out z)) (cut-at t (runLen isWord t) h)
-          ∙ ap (λ (z : ℕ). propertyOf (signs Out (n ++ (z ∷ v)))) (eqb-true (getD t (runLen isWord t) 0) 61 q)
-          ∙ property-equal n v (take-run isWord t) ∙ rw (unnamed t e)
-      go false false p q =
-          let h = leb-false (length t) (runLen isWord t) p in
-          ap (λ z. propertyOf (signs Out z)) (cut-at t (runLen isWord t) h)
-          ∙ property-other (take (runLen isWord t) t) (getD t (runLen isWord t) 0) (drop (runLen isWord t + 1) t) (take-run isWord t) (run-stop isWord t h)
-          (λ z. no-case (sym (eq-eqb (getD t (runLen isWord t) 0) 61 z) ∙ q))
-
-  pub unnamed-entry : entryOf (signs Out t) ≡ none
-  unnamed-entry = go (leb (length t) (runLen isWord t)) (eqb (getD t (runLen isWord t) 0) 61) refl refl
-    where
-      go : (x y : Bool) → leb (length t) (runLen isWord t) ≡ x → eqb (getD t (runLen isWord t) 0) 61 ≡ y → entryOf (signs Out t) ≡ none
-      go true y p q = let a = all-of (leb-true (length t) (runLen isWord t) p) in entry-alone t (a .1) ∙ rw (a .0)
-      go false true p q =
-          let h = leb-false (length t) (runLen isWord t) p in
-          let n = take (runLen isWord t) t in
-          let v = drop (runLen isWord t + 1) t in
-          ap (λ z. entryOf (signs Out z)) (cut-at t (runLen isWord t) h)
-          ∙ ap (λ (z : ℕ). entryOf (signs Out (n ++ (z ∷ v)))) (eqb-true (getD t (runLen isWord t) 0) 61 q)
-          ∙ entry-equal n v (take-run isWord t) ∙ rw (unnamed t e)
-      go false false p q =
-          let h = leb-false (length t) (runLen isWord t) p in
-          ap (λ z. entryOf (signs Out z)) (cut-at t (runLen isWord t) h)
-          ∙ entry-other (take (runLen isWord t) t) (getD t (runLen isWord t) 0) (drop (runLen isWord t + 1) t) (take-run isWord t) (run-stop isWord t h)
-          (λ z. no-case (sym (eq-eqb (getD t (runLen isWord t) 0) 61 z) ∙ q))
+pub unnamed-entry : (t : List ℕ) → nameLen t ≡ 0 → entryOf (signs Out t) ≡ none
+unnamed-entry t e = as-entry (signs Out t) ∙ named-none valueOf (λ n. entry n none) (λ n v. entry n (some v)) t e
 
 -- a name of k bytes begins it
 module _ (t : List ℕ) (k : ℕ) (n : Named t k) where
   -- and is all of it
   pub mere-property : k ≡ length t → propertyOf (signs Out t) ≡ some (property (take k t) alone)
-  mere-property h =
-      let a : take k t ≡ t = take-all k t (omega arith) in
-      ap (λ z. propertyOf (signs Out z)) (sym a) ∙ property-alone (take k t) (n .words) ∙ rw (n .name)
+  mere-property h = as-property (signs Out t) ∙ named-mere saidOf (λ m. property m alone) property t k n h
 
   pub mere-entry : k ≡ length t → entryOf (signs Out t) ≡ some (entry (take k t) none)
-  mere-entry h =
-      let a : take k t ≡ t = take-all k t (omega arith) in
-      ap (λ z. entryOf (signs Out z)) (sym a) ∙ entry-alone (take k t) (n .words) ∙ rw (n .name)
+  mere-entry h = as-entry (signs Out t) ∙ named-mere valueOf (λ m. entry m none) (λ m v. entry m (some v)) t k n h
 
   -- something else than `=` follows
   other-property : k < length t → (getD t k 0 ≡ 61 → ⊥) → propertyOf (signs Out t) ≡ none
-  other-property h d = ap (λ z. propertyOf (signs Out z)) (cut-at t k h) ∙ property-other (take k t) (getD t k 0) (drop (k + 1) t) (n .words) (n .next h) d
+  other-property h d = as-property (signs Out t) ∙ named-not saidOf (λ m. property m alone) property t k n h d
 
   other-entry : k < length t → (getD t k 0 ≡ 61 → ⊥) → entryOf (signs Out t) ≡ none
-  other-entry h d = ap (λ z. entryOf (signs Out z)) (cut-at t k h) ∙ entry-other (take k t) (getD t k 0) (drop (k + 1) t) (n .words) (n .next h) d
+  other-entry h d = as-entry (signs Out t) ∙ named-not valueOf (λ m. entry m none) (λ m v. entry m (some v)) t k n h d
 
   -- `=` follows
   said-property : k < length t → getD t k 0 ≡ 61 → propertyOf (signs Out t) ≡ given (saidOf (signs Out (drop (k + 1) t))) (λ s. some (property (take k t) s))
-  said-property h d =
-      ap (λ z. propertyOf (signs Out z)) (cut-at t k h) ∙ ap (λ (z : ℕ). propertyOf (signs Out (take k t ++ (z ∷ drop (k + 1) t)))) d
-      ∙ property-equal (take k t) (drop (k + 1) t) (n .words) ∙ rw (n .name)
+  said-property h d = as-property (signs Out t) ∙ named-with saidOf (λ m. property m alone) property t k n h d
 
   valued-entry : k < length t → getD t k 0 ≡ 61 → entryOf (signs Out t) ≡ given (valueOf (signs Out (drop (k + 1) t))) (λ w. some (entry (take k t) (some w)))
-  valued-entry h d =
-      ap (λ z. entryOf (signs Out z)) (cut-at t k h) ∙ ap (λ (z : ℕ). entryOf (signs Out (take k t ++ (z ∷ drop (k + 1) t)))) d
-      ∙ entry-equal (take k t) (drop (k + 1) t) (n .words) ∙ rw (n .name)
+  valued-entry h d = as-entry (signs Out t) ∙ named-with valueOf (λ m. entry m none) (λ m v. entry m (some v)) t k n h d
 
 -- ---- `=` and `==`
 
@@ -351,7 +286,7 @@ said-two : (t : List ℕ) (v : ℕ) → equalAt t v ≡ true → saidOf (signs O
 unfolding saidOf
 said-two t v e =
     let h = equal-there t v e in
-    ap (λ z. saidOf (signs Out z)) (drop-step t v (h .0) ∙ ap (λ (b : ℕ). b ∷ drop (v + 1) t) (h .1)) ∙ ap saidOf (equal-signs (drop (v + 1) t))
+    ap (λ z. saidOf (signs Out z)) (drop-step t v (h .0) ∙ ap (λ (b : ℕ). b ∷ drop (v + 1) t) (h .1)) ∙ ap saidOf (bare-signs 61 (drop (v + 1) t) refl refl)
 
 said-one : (t : List ℕ) (v : ℕ) → equalAt t v ≡ false → saidOf (signs Out (drop v t)) ≡ given (valueOf (signs Out (drop v t))) (λ w. some (equals w))
 unfolding saidOf
@@ -373,72 +308,55 @@ pub record Valued (t : List ℕ) (k o : ℕ) (value : Value) : Type 0 where
   pub within : k + o ≤ length t
   pub is : valueOf (signs Out (drop (k + o) t)) ≡ some value
 
+-- by what a text begins with: no name, a name alone, a name before something else, a name before `=`
+name-case : {P : Type 0} (t : List ℕ) → (nameLen t ≡ 0 → P) → ((k : ℕ) → Named t k → k ≡ length t → P) → ((k : ℕ) → Named t k → k < length t → (getD t k 0 ≡ 61 → ⊥) → P)
+    → ((k : ℕ) → Named t k → k < length t → getD t k 0 ≡ 61 → P) → P
+name-case {P = P} t none′ mere other equal = start (eqb (nameLen t) 0) refl
+  where
+    after-name : (x y : Bool) → leb (length t) (nameLen t) ≡ x → eqb (getD t (nameLen t) 0) 61 ≡ y → Named t (nameLen t) → P
+    after-name true y p q n = let h = leb-true (length t) (nameLen t) p in let w = n .within in mere (nameLen t) n (omega arith)
+    after-name false true p q n = equal (nameLen t) n (leb-false (length t) (nameLen t) p) (eqb-true (getD t (nameLen t) 0) 61 q)
+    after-name false false p q n = other (nameLen t) n (leb-false (length t) (nameLen t) p) (eqb-false (getD t (nameLen t) 0) 61 q)
+
+    start : (x : Bool) → eqb (nameLen t) 0 ≡ x → P
+    start true p = none′ (eqb-true (nameLen t) 0 p)
+    start false p =
+        after-name (leb (length t) (nameLen t)) (eqb (getD t (nameLen t) 0) 61) refl refl (named t (nameLen t) refl (eqb-false (nameLen t) 0 p))
+
 module _ {P : Type 0} (t : List ℕ) where
   pub property-case : (propertyOf (signs Out t) ≡ none → P)
       → ((k : ℕ) → Named t k → k ≡ length t → propertyOf (signs Out t) ≡ some (property (take k t) alone) → P)
       → ((k : ℕ) (v : Value) → Valued t k 1 v → propertyOf (signs Out t) ≡ some (property (take k t) (equals v)) → P)
       → ((k : ℕ) (v : Value) → Valued t k 2 v → propertyOf (signs Out t) ≡ some (property (take k t) (matches v)) → P) → P
-  property-case bad mere one two = start (eqb (nameLen t) 0) refl
+  property-case bad mere one two =
+      name-case t (λ e. bad (unnamed-property t e)) (λ k n z. mere k n z (mere-property t k n z)) (λ k n h d. bad (other-property t k n h d))
+      (λ k n h d. gave k n h d (equalAt t (k + 1)) refl (valueOf (signs Out (drop (k + cond (equalAt t (k + 1)) 2 1) t))) refl)
     where
-      gave : (b : Bool) → equalAt t (nameLen t + 1) ≡ b → Named t (nameLen t) → nameLen t < length t → getD t (nameLen t) 0 ≡ 61 → (o : Option Value) → valueOf (signs Out (drop (nameLen t + cond b 2 1) t)) ≡ o → P
-      gave true e n h d none p =
-          bad (said-property t (nameLen t) n h d ∙ rw (said-two t (nameLen t + 1) e, plus, p))
+      gave : (k : ℕ) → Named t k → k < length t → getD t k 0 ≡ 61 → (b : Bool) → equalAt t (k + 1) ≡ b → (o : Option Value) → valueOf (signs Out (drop (k + cond b 2 1) t)) ≡ o → P
+      gave k n h d true e o p = go o p
         where
-          plus : drop (nameLen t + 1 + 1) t ≡ drop (nameLen t + 2) t
-          plus = let z : nameLen t + 1 + 1 ≡ nameLen t + 2 = omega arith in ap (λ (j : ℕ). drop j t) z
-      gave true e n h d (some v) p =
-          two (nameLen t) v (record { named = n; sign = d; within = let q = equal-there t (nameLen t + 1) e in omega (arith, q .0); is = p })
-          (said-property t (nameLen t) n h d ∙ rw (said-two t (nameLen t + 1) e, plus, p))
-        where
-          plus : drop (nameLen t + 1 + 1) t ≡ drop (nameLen t + 2) t
-          plus = let z : nameLen t + 1 + 1 ≡ nameLen t + 2 = omega arith in ap (λ (j : ℕ). drop j t) z
-      gave false e n h d none p = bad (said-property t (nameLen t) n h d ∙ rw (said-one t (nameLen t + 1) e, p))
-      gave false e n h d (some v) p =
-          one (nameLen t) v (record { named = n; sign = d; within = omega arith; is = p }) (said-property t (nameLen t) n h d ∙ rw (said-one t (nameLen t + 1) e, p))
+          plus : drop (k + 1 + 1) t ≡ drop (k + 2) t
+          plus = let z : k + 1 + 1 ≡ k + 2 = omega arith in ap (λ (j : ℕ). drop j t) z
 
-      after-name : (x y : Bool) → leb (length t) (nameLen t) ≡ x → eqb (getD t (nameLen t) 0) 61 ≡ y → Named t (nameLen t) → P
-      after-name true y p q n =
-          let h = leb-true (length t) (nameLen t) p in
-          let w = n .within in
-          let z : nameLen t ≡ length t = omega arith in
-          mere (nameLen t) n z (mere-property t (nameLen t) n z)
-      after-name false true p q n =
-          gave (equalAt t (nameLen t + 1)) refl n (leb-false (length t) (nameLen t) p) (eqb-true (getD t (nameLen t) 0) 61 q)
-          (valueOf (signs Out (drop (nameLen t + cond (equalAt t (nameLen t + 1)) 2 1) t))) refl
-      after-name false false p q n =
-          bad (other-property t (nameLen t) n (leb-false (length t) (nameLen t) p) (λ z. no-case (sym (eq-eqb (getD t (nameLen t) 0) 61 z) ∙ q)))
-
-      start : (x : Bool) → eqb (nameLen t) 0 ≡ x → P
-      start true p = bad (unnamed-property t (eqb-true (nameLen t) 0 p))
-      start false p =
-          after-name (leb (length t) (nameLen t)) (eqb (getD t (nameLen t) 0) 61) refl refl
-          (named t (nameLen t) refl (λ z. no-case (sym (eq-eqb (nameLen t) 0 z) ∙ p)))
+          go : (o : Option Value) → valueOf (signs Out (drop (k + 2) t)) ≡ o → P
+          go none p = bad (said-property t k n h d ∙ rw (said-two t (k + 1) e, plus, p))
+          go (some v) p =
+              two k v (record { named = n; sign = d; within = let q = equal-there t (k + 1) e in omega (arith, q .0); is = p })
+              (said-property t k n h d ∙ rw (said-two t (k + 1) e, plus, p))
+      gave k n h d false e none p = bad (said-property t k n h d ∙ rw (said-one t (k + 1) e, p))
+      gave k n h d false e (some v) p =
+          one k v (record { named = n; sign = d; within = omega arith; is = p }) (said-property t k n h d ∙ rw (said-one t (k + 1) e, p))
 
   pub entry-case : (entryOf (signs Out t) ≡ none → P)
       → ((k : ℕ) → Named t k → k ≡ length t → entryOf (signs Out t) ≡ some (entry (take k t) none) → P)
       → ((k : ℕ) (v : Value) → Valued t k 1 v → entryOf (signs Out t) ≡ some (entry (take k t) (some v)) → P) → P
-  entry-case bad mere one = start (eqb (nameLen t) 0) refl
+  entry-case bad mere one =
+      name-case t (λ e. bad (unnamed-entry t e)) (λ k n z. mere k n z (mere-entry t k n z)) (λ k n h d. bad (other-entry t k n h d))
+      (λ k n h d. gave k n h d (valueOf (signs Out (drop (k + 1) t))) refl)
     where
-      gave : Named t (nameLen t) → nameLen t < length t → getD t (nameLen t) 0 ≡ 61 → (o : Option Value) → valueOf (signs Out (drop (nameLen t + 1) t)) ≡ o → P
-      gave n h d none p = bad (valued-entry t (nameLen t) n h d ∙ rw p)
-      gave n h d (some v) p = one (nameLen t) v (record { named = n; sign = d; within = omega arith; is = p }) (valued-entry t (nameLen t) n h d ∙ rw p)
-
-      after-name : (x y : Bool) → leb (length t) (nameLen t) ≡ x → eqb (getD t (nameLen t) 0) 61 ≡ y → Named t (nameLen t) → P
-      after-name true y p q n =
-          let h = leb-true (length t) (nameLen t) p in
-          let w = n .within in
-          let z : nameLen t ≡ length t = omega arith in
-          mere (nameLen t) n z (mere-entry t (nameLen t) n z)
-      after-name false true p q n =
-          gave n (leb-false (length t) (nameLen t) p) (eqb-true (getD t (nameLen t) 0) 61 q) (valueOf (signs Out (drop (nameLen t + 1) t))) refl
-      after-name false false p q n =
-          bad (other-entry t (nameLen t) n (leb-false (length t) (nameLen t) p) (λ z. no-case (sym (eq-eqb (getD t (nameLen t) 0) 61 z) ∙ q)))
-
-      start : (x : Bool) → eqb (nameLen t) 0 ≡ x → P
-      start true p = bad (unnamed-entry t (eqb-true (nameLen t) 0 p))
-      start false p =
-          after-name (leb (length t) (nameLen t)) (eqb (getD t (nameLen t) 0) 61) refl refl
-          (named t (nameLen t) refl (λ z. no-case (sym (eq-eqb (nameLen t) 0 z) ∙ p)))
+      gave : (k : ℕ) → Named t k → k < length t → getD t k 0 ≡ 61 → (o : Option Value) → valueOf (signs Out (drop (k + 1) t)) ≡ o → P
+      gave k n h d none p = bad (valued-entry t k n h d ∙ rw p)
+      gave k n h d (some v) p = one k v (record { named = n; sign = d; within = omega arith; is = p }) (valued-entry t k n h d ∙ rw p)
 
 -- ---- each answer of the code; the text is the first n bytes of s
 

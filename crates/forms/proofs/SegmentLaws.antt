@@ -2,7 +2,7 @@
 use Prim.Native.Nat.{ℕ, suc, zero, _+_, _-_, _<_, _≤_}
 use mathlib.Core.Path.{_≡_, refl, sym, ap, _∙_}
 use mathlib.Core.List.{List, [], _∷_, _++_}
-use mathlib.Core.Bool.{Bool, true, false, cond, not, _&&_, _||_}
+use mathlib.Core.Bool.{Bool, true, false, cond, not, _&&_, _||_, and-false}
 use mathlib.Core.Option.{Option, none, some}
 use native.Mathlib.Omega.{arith}
 use native.Mathlib.Numerals.{add-one}
@@ -14,7 +14,7 @@ use Rattle.text.specs.declared.Number.the-variants as number
 use Rattle.text.specs.Bytes.{bytes, sameBytes, isLetter}
 use Rattle.text.specs.Lists.{allOf, anyOf, upTo, parts, runLen, isNil}
 use Rattle.text.specs.Decimal.{valueFrom, isDecimal, decimalOf}
-use Rattle.text.proofs.Basics.{and-l, and-false, no-case, parts-at, parts-none, parts-some}
+use Rattle.text.proofs.Basics.{and-l, no-case, parts-at, parts-none, parts-some}
 use Rattle.text.proofs.Slices.{part-from, part-between, length-between}
 use Rattle.text.proofs.Decimals.{value-most}
 use Rattle.text.proofs.Scans.{run-within}

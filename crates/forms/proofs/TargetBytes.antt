@@ -1,7 +1,7 @@
 -- A target that is of its form has no bytes but letters, digits, `.`, `*` and separators: its signs are all bare. Assumes nothing.
 use Prim.Native.Nat.{ℕ, zero, suc, _+_, _-_, _<_, _≤_}
 use mathlib.Core.Path.{_≡_, refl, sym, ap, _∙_}
-use mathlib.Core.List.{List, [], _∷_, _++_, map}
+use mathlib.Core.List.{List, [], _∷_, _++_, map, append-nil}
 use mathlib.Core.Bool.{Bool, true, false, cond, not, _&&_, _||_}
 use mathlib.Core.Option.{Option, none, some}
 use native.Mathlib.Omega.{arith}
@@ -11,14 +11,14 @@ use borrow.Author.Tests.{eqb-true}
 use Rattle.text.specs.Bytes.{bytes, sameBytes, isLetter, isDigit}
 use Rattle.text.specs.Lists.{allOf, parts, onto, isNil, runLen}
 use Rattle.text.specs.Decimal.{isDecimal}
-use Rattle.text.proofs.Basics.{and-l, and-r, or-in-l, or-in-r, or-case, no-case, same-eq, all-append, all-mono, cond-some, none-some, parts-some}
-use Rattle.text.proofs.Classes.{other-byte}
+use Rattle.text.proofs.Basics.{and-l, and-r, or-in-l, or-in-r, or-case, no-case, same-eq, all-append, all-mono, cond-some, none-some, parts-some, nil-is}
 use Rattle.text.proofs.Scans.{take-run}
 use Rattle.text.proofs.Decimals.{decimal-made}
 use Rattle.terms.specs.declared.Mode.the-variants.{Out}
-use Rattle.terms.specs.Signs.{Sign, bare, after, gives, signs}
+use Rattle.terms.specs.Signs.{Sign, bare, after, gives, signs, bares}
 use Rattle.words.specs.Words.{sessionName}
 use Rattle.forms.specs.Targets.{isSeparator, tagLen, isTagLen, isNumbered, isStarred, isSegment, areSegments, Target, session, path, segmentsOf, pathOf, targetOf}
+use Rattle.terms.proofs.TermLaws.{bares-signs}
 
 -- the bytes of a segment, and those of a path
 abbrev pub isSegmentByte : ℕ → Bool
@@ -102,15 +102,8 @@ unfolding pathOf
 path-bytes [] x e = none-some x e
 path-bytes (b ∷ s) x e = go (isSeparator b) refl (isNil s) refl
   where
-    empty : isNil s ≡ true → s ≡ []
-    empty h = at s h
-      where
-        at : (r : List ℕ) → isNil r ≡ true → r ≡ []
-        at [] k = refl
-        at (d ∷ r) k = no-case (sym k)
-
     go : (y : Bool) → isSeparator b ≡ y → (z : Bool) → isNil s ≡ z → allOf isPathByte (b ∷ s) ≡ true
-    go true p true q = unfold allOf in simp (or-in-r (isSegmentByte b) (isSeparator b) p, empty q)
+    go true p true q = unfold allOf in simp (or-in-r (isSegmentByte b) (isSeparator b) p, nil-is s q)
     go true p false q = unfold allOf in simp (or-in-r (isSegmentByte b) (isSeparator b) p, segments-path true s x (rw (p, q) at e))
     go false p z q = segments-path false (b ∷ s) x (rw p at e)
 
@@ -123,12 +116,9 @@ target-bytes t x e = go (sameBytes t sessionName) refl
     go false p = path-bytes t x (rw p at e)
 
 -- the signs of such a text
-pub path-signs : (t : List ℕ) → allOf isPathByte t ≡ true → signs Out t ≡ map bare t
-unfolding signs allOf gives after
-path-signs [] e = refl
-path-signs (b ∷ t) e =
-    let w = and-l (isPathByte b) (allOf isPathByte t) e in
-    simp (other-byte isPathByte 96 b refl w, other-byte isPathByte 34 b refl w, path-signs t (and-r (isPathByte b) (allOf isPathByte t) e))
+pub path-signs : (t : List ℕ) → allOf isPathByte t ≡ true → signs Out t ≡ bares t
+unfolding signs
+path-signs t e = ap (signs Out) (sym (append-nil t)) ∙ bares-signs isPathByte refl refl t [] e ∙ append-nil (bares t)
 
-pub target-signs : (t : List ℕ) (x : Target) → targetOf t ≡ some x → signs Out t ≡ map bare t
+pub target-signs : (t : List ℕ) (x : Target) → targetOf t ≡ some x → signs Out t ≡ bares t
 target-signs t x e = path-signs t (target-bytes t x e)

@@ -20,6 +20,8 @@ use Rattle.forms.specs.Forms.{isPlainSign, endsQuote, isText, itemsIn, i
 use Rattle.forms.specs.Automata.{textStep, whole, textFrom, textOver, textEnd, listFrom}
 use Rattle.forms.specs.Steps.{bareAt, nextItem, listStep, itemsAfter}
 use Rattle.forms.proofs.Lists.{taken-step, last-one}
+use Rattle.text.proofs.Classes.{other-byte}
+use Rattle.terms.proofs.ByteCases.{gives-case, out-case, grave-first}
 
 -- ---- a quoted string or plain
 
@@ -187,21 +189,18 @@ list-dead k (x ∷ t) = go (isBare 41 x) (isBare 44 x) (list-dead k t)
     go false false ih = ih
 
 -- a byte outside quotes that GRAVE does not escape is no comma and no parenthesis
-other : (xs : List ℕ) (b k : ℕ) → oneOf xs b ≡ false → oneOf xs k ≡ true → eqb b k ≡ false
-other xs b k e h = ne-eqb b k (λ z. no-case (sym h ∙ ap (oneOf xs) (sym z) ∙ e))
-
 module _ (b : ℕ) (e : oneOf twelve b ≡ false) where
   pub no-comma : eqb b 44 ≡ false
-  no-comma = other twelve b 44 e (unfold oneOf twelve bytes in refl)
+  no-comma = other-byte (oneOf twelve) 44 b false (unfold oneOf twelve bytes in refl) e
 
   pub no-open : eqb b 40 ≡ false
-  no-open = other twelve b 40 e (unfold oneOf twelve bytes in refl)
+  no-open = other-byte (oneOf twelve) 40 b false (unfold oneOf twelve bytes in refl) e
 
   pub no-close : eqb b 41 ≡ false
-  no-close = other twelve b 41 e (unfold oneOf twelve bytes in refl)
+  no-close = other-byte (oneOf twelve) 41 b false (unfold oneOf twelve bytes in refl) e
 
   pub no-equal : eqb b 61 ≡ false
-  no-equal = other twelve b 61 e (unfold oneOf twelve bytes in refl)
+  no-equal = other-byte (oneOf twelve) 61 b false (unfold oneOf twelve bytes in refl) e
 
 list-next : (q : At) (k : ℕ) (r : List Sign) → whole q && listFrom Start (suc k) r ≡ listFrom (nextItem q) (k + 1) r
 list-next q k r = go (whole q) refl
@@ -212,30 +211,19 @@ list-next q k r = go (whole q) refl
 
 list-over : (q : At) (k : ℕ) (m : Mode) (b : ℕ) (r : List Sign) → bareAt 41 m b ≡ false
     → listFrom q k (gives m b ++ r) ≡ listFrom (listStep q m b) (itemsAfter k m b) r
-unfolding listFrom gives textOver listStep itemsAfter
-list-over q k Out b r e = go (eqb b 96) (eqb b 34) (eqb b 44) refl refl refl
+unfolding listFrom textOver listStep itemsAfter gives
+list-over q k m b r =
+    gives-case (λ n g a. bareAt 41 n b ≡ false → listFrom q k (g ++ r) ≡ listFrom (listStep q n b) (itemsAfter k n b) r) b
+    (λ p e. let w = eqb-true b 96 p in simp (p, ne-eqb b 44 (λ j. omega arith)))
+    (λ p t e. let w = eqb-true b 34 t in simp (p, t, ne-eqb b 44 (λ j. omega arith)))
+    (λ p t e. bare-over p t e (eqb b 44) refl)
+    (λ p e. simp p)
+    (λ p e. simp (p, no-comma b p, no-close b p))
+    (λ p e. simp p) (λ p t e. simp (p, t)) (λ p t e. simp (p, t)) (λ p e. simp p) (λ p e. simp p) m
   where
-    go : (x y z : Bool) → eqb b 96 ≡ x → eqb b 34 ≡ y → eqb b 44 ≡ z → listFrom q k (gives Out b ++ r) ≡ listFrom (listStep q Out b) (itemsAfter k Out b) r
-    go true y z p t u = let w = eqb-true b 96 p in simp (p, ne-eqb b 44 (λ j. omega arith))
-    go false true z p t u = let w = eqb-true b 34 t in simp (p, t, ne-eqb b 44 (λ j. omega arith))
-    go false false true p t u = simp (p, t, u, e) (list-next q k r)
-    go false false false p t u = simp (p, t, u, e)
-list-over q k OutGrave b r e = go (oneOf twelve b) refl
-  where
-    go : (x : Bool) → oneOf twelve b ≡ x → listFrom q k (gives OutGrave b ++ r) ≡ listFrom (listStep q OutGrave b) (itemsAfter k OutGrave b) r
-    go true p = simp p
-    go false p = simp (p, no-comma b p, no-close b p)
-list-over q k In b r e = go (eqb b 96) (eqb b 34) refl refl
-  where
-    go : (x y : Bool) → eqb b 96 ≡ x → eqb b 34 ≡ y → listFrom q k (gives In b ++ r) ≡ listFrom (listStep q In b) (itemsAfter k In b) r
-    go true y p t = simp p
-    go false true p t = simp (p, t)
-    go false false p t = simp (p, t)
-list-over q k InGrave b r e = go (oneOf two b) refl
-  where
-    go : (x : Bool) → oneOf two b ≡ x → listFrom q k (gives InGrave b ++ r) ≡ listFrom (listStep q InGrave b) (itemsAfter k InGrave b) r
-    go true p = simp p
-    go false p = simp p
+    bare-over : eqb b 96 ≡ false → eqb b 34 ≡ false → eqb b 41 ≡ false → (z : Bool) → eqb b 44 ≡ z → listFrom q k (bare b ∷ r) ≡ listFrom (listStep q Out b) (itemsAfter k Out b) r
+    bare-over p t e true u = simp (p, t, u, e) (list-next q k r)
+    bare-over p t e false u = simp (p, t, u, e)
 
 list-end : (q : At) (k : ℕ) (m : Mode) → listFrom q k (atEnd m) ≡ false
 unfolding listFrom
@@ -245,24 +233,10 @@ list-end q k In = refl
 list-end q k InGrave = refl
 
 -- a text that has bytes has signs
-grave-some : (s : List ℕ) → isNil (signs OutGrave s) ≡ false
-unfolding signs gives after
-grave-some [] = refl
-grave-some (b ∷ s) = go (oneOf twelve b) refl
-  where
-    go : (x : Bool) → oneOf twelve b ≡ x → isNil (gives OutGrave b ++ signs Out s) ≡ false
-    go true p = simp p
-    go false p = simp p
-
 pub signs-nil : (s : List ℕ) → isNil (signs Out s) ≡ isNil s
-unfolding signs gives after
+unfolding signs
 signs-nil [] = refl
-signs-nil (b ∷ s) = go (eqb b 96) (eqb b 34) refl refl
-  where
-    go : (x y : Bool) → eqb b 96 ≡ x → eqb b 34 ≡ y → isNil (gives Out b ++ signs (after Out b) s) ≡ false
-    go true y p q = simp p (grave-some s)
-    go false true p q = simp (p, q)
-    go false false p q = simp (p, q)
+signs-nil (b ∷ s) = out-case (λ g m. isNil (g ++ signs m s) ≡ false) b (λ _. grave-first (λ z. isNil z ≡ false) (λ r. refl) (λ c r. refl) s) (λ _ _. refl) (λ _ _. refl)
 
 list-close : (q : At) (k : ℕ) (m : Mode) (b : ℕ) (r : List ℕ) → bareAt 41 m b ≡ true
     → listFrom q k (signs m (b ∷ r)) ≡ whole q && (leb (suc k) 16 && isNil r)

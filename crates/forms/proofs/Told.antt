@@ -16,8 +16,9 @@ use Rattle.forms.specs.declared.Shape.{Shape}
 use Rattle.forms.specs.declared.Shape.the-variants as shape
 use Rattle.forms.specs.Forms.{isText, itemsIn, isList, listOf, textOf, Value, one, many, valueOf, Said, alone, equals, matches, Property, property, propertyOf}
 use Rattle.forms.specs.Answers.{isSome, operatorOf, shapeOf, textIn, propertyIn, isValueIn, areEntriesIn}
-use Rattle.forms.proofs.ValueLaws.{starts-byte, open-signs}
+use Rattle.forms.proofs.ValueLaws.{starts-byte}
 use Rattle.forms.proofs.PropertyLaws.{Named, Valued, property-case}
+use Rattle.terms.proofs.TermLaws.{bare-signs}
 
 pub some-told : {A : Type 0} (o : Option A) → isSome o ≡ true → (a : A) × (o ≡ some a)
 some-told none e = no-case (sym e)
@@ -128,7 +129,7 @@ value-case {P = P} (b ∷ t) v e f g = go (eqb b 40) refl
     go true p =
         let z = eqb-true b 40 p in
         let h : valueOf (signs Out (40 ∷ t)) ≡ some v = ap (λ (c : ℕ). valueOf (signs Out (c ∷ t))) (sym z) ∙ e in
-        let l : listOf (signs Out t) ≡ some v = sym (ap valueOf (open-signs t)) ∙ h in
+        let l : listOf (signs Out t) ≡ some v = sym (ap valueOf (bare-signs 40 t refl refl)) ∙ h in
         let q = cond-some (isList (signs Out t)) (some (many (map stands (itemsIn (signs Out t))))) v l in
         g (record { first = z; within = omega arith; list = q .0; is = cc (q .1) })
     go false p =

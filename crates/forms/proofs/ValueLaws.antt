@@ -15,35 +15,20 @@ use Rattle.terms.specs.declared.Mode.the-variants.{Out, OutGrave, In, InGrave}
 use Rattle.terms.specs.Signs.{Sign, bare, escaped, quote, quoted, quotedEscaped, isBare, twelve, after, gives, signs, stands}
 use Rattle.forms.specs.Forms.{starts, isText, itemsIn, isList, listOf, textOf, Value, one, many, valueOf}
 use Rattle.forms.specs.Answers.{isSome, textIn, isValueIn}
+use Rattle.terms.proofs.ByteCases.{out-case, grave-first}
+use Rattle.terms.proofs.TermLaws.{bare-signs}
 
 -- ---- the first sign of a text
 
 grave-starts : (k : ℕ) (s : List ℕ) → eqb 96 k ≡ false → starts k (signs OutGrave s) ≡ false
-unfolding signs gives after
-grave-starts k [] e = e
-grave-starts k (b ∷ s) e = go (oneOf twelve b) refl
-  where
-    go : (x : Bool) → oneOf twelve b ≡ x → starts k (gives OutGrave b ++ signs Out s) ≡ false
-    go true p = simp p
-    go false p = simp (p, e)
+grave-starts k s e = grave-first (λ z. starts k z ≡ false) (λ r. e) (λ b r. refl) s
 
 -- it is a bare byte k where the first byte is k, for every k but GRAVE and `"`
 pub starts-byte : (k b : ℕ) (s : List ℕ) → eqb 96 k ≡ false → eqb 34 k ≡ false → starts k (signs Out (b ∷ s)) ≡ eqb b k
-unfolding signs gives after
-starts-byte k b s e f = go (eqb b 96) (eqb b 34) refl refl
-  where
-    go : (x y : Bool) → eqb b 96 ≡ x → eqb b 34 ≡ y → starts k (gives Out b ++ signs (after Out b) s) ≡ eqb b k
-    go true y p q = simp p (grave-starts k s e ∙ sym (ap (λ z. eqb z k) (eqb-true b 96 p) ∙ e))
-    go false true p q = simp (p, q) (sym (ap (λ z. eqb z k) (eqb-true b 34 q) ∙ f))
-    go false false p q = simp (p, q)
-
-pub open-signs : (s : List ℕ) → signs Out (40 ∷ s) ≡ bare 40 ∷ signs Out s
-unfolding signs gives after
-open-signs s = refl
-
-pub equal-signs : (s : List ℕ) → signs Out (61 ∷ s) ≡ bare 61 ∷ signs Out s
-unfolding signs gives after
-equal-signs s = refl
+unfolding signs
+starts-byte k b s e f =
+    out-case (λ g m. starts k (g ++ signs m s) ≡ eqb b k) b (λ p. grave-starts k s e ∙ sym (ap (λ z. eqb z k) (eqb-true b 96 p) ∙ e))
+    (λ _ q. sym (ap (λ z. eqb z k) (eqb-true b 34 q) ∙ f)) (λ _ _. refl)
 
 -- ---- a value
 
@@ -60,7 +45,7 @@ pub value-list : (t : List ℕ) → getD t 0 0 ≡ 40 → isSome (valueOf (signs
 unfolding valueOf listOf
 value-list [] h = absurd (omega arith)
 value-list (b ∷ t) h =
-    ap (λ z. isSome (valueOf (signs Out (z ∷ t)))) h ∙ ap (λ z. isSome (valueOf z)) (open-signs t)
+    ap (λ z. isSome (valueOf (signs Out (z ∷ t)))) h ∙ ap (λ z. isSome (valueOf z)) (bare-signs 40 t refl refl)
     ∙ some-if (isList (signs Out t)) (many (map stands (itemsIn (signs Out t))))
 
 -- what stands first in the first n of a list

@@ -6,7 +6,7 @@ use mathlib.Core.Bool.{Bool, true, false, cond, not, _&&_}
 use native.Mathlib.Omega.{arith}
 use lib.Dec.{eqb}
 use Rattle.text.specs.Lists.{walk, allOf}
-use Rattle.text.proofs.Basics.{and-l, and-r, neg, no-case}
+use Rattle.text.proofs.Basics.{and-l, and-r, no-case}
 use Rattle.terms.specs.declared.Mode.{Mode}
 use Rattle.terms.specs.declared.Mode.the-variants.{Out, OutGrave, In, InGrave}
 use Rattle.terms.specs.Signs.{after}
@@ -17,6 +17,7 @@ use Rattle.joiner.proofs.Given.{Every, Sound, sound-lines}
 use Rattle.reading.specs.Reading.{readingOf, refusal}
 use Rattle.reading.specs.Order.{order, isFirstOf, Refused, byLine, byTerm, byEnd}
 use Rattle.reading.proofs.Order.{line-exactly}
+use borrow.Author.Tests.{not-true}
 
 abbrev graveWaits : Mode → Bool
 graveWaits Out = false
@@ -56,7 +57,7 @@ never-first : (f : ℕ → Bool) (js : List ℕ) (k : ℕ) → allOf (λ j. not 
 unfolding isFirstOf allOf
 never-first f [] k a h = no-case (sym h)
 never-first f (j ∷ js) k a h =
-    let n = neg (eqb j k) (and-l (not (eqb j k)) (allOf (λ i. not (eqb i k)) js) a) in
+    let n = not-true (eqb j k) (and-l (not (eqb j k)) (allOf (λ i. not (eqb i k)) js) a) in
     never-first f js k (and-r (not (eqb j k)) (allOf (λ i. not (eqb i k)) js) a) (and-r (not (f j)) (isFirstOf f js k) (rw n at h))
 
 not-3 : allOf (λ j. not (eqb j 3)) order ≡ true

@@ -7,10 +7,10 @@ use mathlib.Core.Option.{Option, none, some}
 use native.Mathlib.Omega.{arith}
 use lib.ListN.{length, drop, getD}
 use lib.Dec.{eqb, leb}
-use borrow.Author.Tests.{eqb-true, eq-eqb}
+use borrow.Author.Tests.{eqb-true, eq-eqb, not-true}
 use Rattle.text.specs.declared.Verdict.{Verdict}
 use Rattle.text.specs.declared.Verdict.the-variants.{Fine, Flawed}
-use Rattle.text.proofs.Basics.{and-l, and-r, neg, no-case, same-some}
+use Rattle.text.proofs.Basics.{and-l, and-r, no-case, same-some}
 use Rattle.terms.specs.Signs.{Sign, raws}
 use Rattle.terms.specs.Terms.{Term, termsOf}
 use Rattle.terms.specs.Rows.{lexicalOf}
@@ -60,7 +60,7 @@ is-first f (j ∷ js) k h = go (eqb j k) refl (is-first f js k)
     go true d ih = let e : f j ≡ true = rw d at h in rw e (ap some (eqb-true j k d))
     go false d ih =
         let q : not (f j) && isFirstOf f js k ≡ true = rw d at h in
-        rw (neg (f j) (and-l (not (f j)) (isFirstOf f js k) q)) (ih (and-r (not (f j)) (isFirstOf f js k) q))
+        rw (not-true (f j) (and-l (not (f j)) (isFirstOf f js k) q)) (ih (and-r (not (f j)) (isFirstOf f js k) q))
 
 -- ---- one term: the number that it is refused by is the first row that holds
 

@@ -1,3 +1,4 @@
+pub mod ByteCases
 pub mod TermLaws
 pub mod ScanLaws
 pub mod Paper

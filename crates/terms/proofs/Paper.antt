@@ -11,14 +11,8 @@ use Rattle.text.proofs.Basics.{no-case}
 use Rattle.terms.specs.declared.Mode.{Mode}
 use Rattle.terms.specs.declared.Mode.the-variants.{Out, In}
 use Rattle.terms.specs.Signs.{Sign, bare, escaped, quote, quoted, quotedEscaped, twelve, two, oneSign, paperSigns, after, gives, signs}
-
--- a byte that is none of some is not one of them
-pub none-of : (ns : List ℕ) (k b : ℕ) → oneOf ns k ≡ true → oneOf ns b ≡ false → eqb b k ≡ false
-none-of ns k b e n = go (eqb b k) refl
-  where
-    go : (t : Bool) → eqb b k ≡ t → t ≡ false
-    go true p = no-case (sym (ap (oneOf ns) (eqb-true b k p) ∙ e) ∙ n)
-    go false p = refl
+use Rattle.text.proofs.Classes.{other-byte}
+use Rattle.terms.proofs.TermLaws.{bare-signs}
 
 pub twelve-grave : oneOf twelve 96 ≡ true
 unfolding oneOf twelve bytes
@@ -43,12 +37,11 @@ modeOf true = In
 
 -- a byte that GRAVE can't escape gives itself, as it does without the GRAVE
 plain-out : (c : ℕ) (s : List ℕ) → oneOf twelve c ≡ false → signs Out (c ∷ s) ≡ bare c ∷ signs Out s
-unfolding signs gives after
-plain-out c s n = simp (none-of twelve 96 c twelve-grave n, none-of twelve 34 c twelve-mark n)
+plain-out c s n = bare-signs c s (other-byte (oneOf twelve) 96 c false twelve-grave n) (other-byte (oneOf twelve) 34 c false twelve-mark n)
 
 plain-in : (c : ℕ) (s : List ℕ) → oneOf two c ≡ false → signs In (c ∷ s) ≡ quoted c ∷ signs In s
 unfolding signs gives after
-plain-in c s n = simp (none-of two 96 c two-grave n, none-of two 34 c two-mark n)
+plain-in c s n = simp (other-byte (oneOf two) 96 c false two-grave n, other-byte (oneOf two) 34 c false two-mark n)
 
 none-left : (q : Bool) → signs (modeOf q) [] ≡ paperSigns q []
 unfolding signs paperSigns

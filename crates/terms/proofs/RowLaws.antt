@@ -14,29 +14,21 @@ use Rattle.text.specs.declared.Verdict.the-variants.{Fine, Flawed}
 use Rattle.text.specs.Bytes.{oneOf, printable}
 use Rattle.text.specs.Lists.{allOf, runLen, walk}
 use Rattle.text.proofs.Basics.{no-case}
-use Rattle.text.proofs.Scans.{run-within, run-all, all-run}
+use Rattle.text.proofs.Classes.{other-byte}
+use Rattle.text.proofs.Scans.{run-within, run-all, all-run, run-fails, walk-over}
 use Rattle.terms.specs.declared.Mode.{Mode}
 use Rattle.terms.specs.declared.Mode.the-variants.{Out, OutGrave, In, InGrave}
 use Rattle.terms.specs.Signs.{Sign, twelve, two, after, gives, atEnd, signs, raw, raws}
 use Rattle.terms.specs.Terms.{isGap, Term, termsFrom, termsOf}
 use Rattle.terms.specs.Rows.{orElse, longFlaw, oddFlaw, endMode, opens, openedAt, endFlaw, openFlaw, manyFrom, manyFlaw, lexicalOf}
 use Rattle.terms.specs.RowWords.{lineSigns, isLone, endsLone, turns, endsOpen, marked, lastMark, startOf, Row1, Row2, Row3, Row4, Row5, NoRow}
-use Rattle.terms.proofs.Paper.{none-of, twelve-grave, two-grave, as-the-paper-says}
+use Rattle.terms.proofs.Paper.{twelve-grave, two-grave, as-the-paper-says}
 use Rattle.terms.proofs.TermLaws.{pend, gives-width, signs-length}
+use Rattle.terms.proofs.ByteCases.{gives-case}
 
 -- ---- row 2: the first byte that fails a test stands where the run of those that pass ends
 
 module _ (f : ℕ → Bool) where
-  run-fails : (s : List ℕ) → runLen f s < length s → f (getD s (runLen f s) 0) ≡ false
-  unfolding runLen
-  run-fails [] h = absurd (omega arith)
-  run-fails (b ∷ s) h = go (f b) refl h (run-fails s)
-    where
-      go : (t : Bool) → f b ≡ t → cond t (suc (runLen f s)) 0 < suc (length s) → (runLen f s < length s → f (getD s (runLen f s) 0) ≡ false)
-          → f (getD (b ∷ s) (cond t (suc (runLen f s)) 0) 0) ≡ false
-      go true p k ih = ih (omega arith)
-      go false p k ih = p
-
   run-passes : (s : List ℕ) (i : ℕ) → i < runLen f s → f (getD s i 0) ≡ true
   unfolding runLen
   run-passes [] i h = absurd (omega arith)
@@ -55,18 +47,13 @@ module _ (f : ℕ → Bool) where
 
 -- ---- rows 3 and 4: the mode at the line's end
 
-walk-over : {S A : Type 0} (f : S → A → S) (v : S) (a r : List A) → walk f v (a ++ r) ≡ walk f (walk f v a) r
-unfolding walk
-walk-over f v [] r = refl
-walk-over f v (x ∷ a) r = walk-over f (f v x) a r
-
-abbrev isGrave : Mode → Bool
+abbrev pub isGrave : Mode → Bool
 isGrave Out = false
 isGrave OutGrave = true
 isGrave In = false
 isGrave InGrave = true
 
-abbrev isIn : Mode → Bool
+abbrev pub isIn : Mode → Bool
 isIn Out = false
 isIn OutGrave = false
 isIn In = true
@@ -77,29 +64,10 @@ lone last x = isLone x
 
 -- a byte gives no sign that ends as a lone GRAVE
 gives-no-lone : (m : Mode) (b : ℕ) → walk lone false (gives m b) ≡ false
-unfolding walk gives
-gives-no-lone Out b = go (eqb b 96) (eqb b 34) refl refl
-  where
-    go : (x y : Bool) → eqb b 96 ≡ x → eqb b 34 ≡ y → walk lone false (gives Out b) ≡ false
-    go true y p q = simp p
-    go false true p q = simp (p, q)
-    go false false p q = simp (p, q)
-gives-no-lone OutGrave b = go (oneOf twelve b) refl
-  where
-    go : (x : Bool) → oneOf twelve b ≡ x → walk lone false (gives OutGrave b) ≡ false
-    go true p = simp p
-    go false p = simp p (none-of twelve 96 b twelve-grave p)
-gives-no-lone In b = go (eqb b 96) (eqb b 34) refl refl
-  where
-    go : (x y : Bool) → eqb b 96 ≡ x → eqb b 34 ≡ y → walk lone false (gives In b) ≡ false
-    go true y p q = simp p
-    go false true p q = simp (p, q)
-    go false false p q = simp (p, q)
-gives-no-lone InGrave b = go (oneOf two b) refl
-  where
-    go : (x : Bool) → oneOf two b ≡ x → walk lone false (gives InGrave b) ≡ false
-    go true p = simp p
-    go false p = simp p (none-of two 96 b two-grave p)
+unfolding walk
+gives-no-lone m b =
+    gives-case (λ k g n. walk lone false g ≡ false) b (λ _. refl) (λ _ _. refl) (λ p _. p) (λ _. refl) (λ p. other-byte (oneOf twelve) 96 b false twelve-grave p)
+    (λ _. refl) (λ _ _. refl) (λ p _. p) (λ _. refl) (λ p. other-byte (oneOf two) 96 b false two-grave p) m
 
 end-lone : (m : Mode) → walk lone false (atEnd m) ≡ isGrave m
 unfolding walk
@@ -117,29 +85,10 @@ lone-mode m (b ∷ s) =
     ∙ lone-mode (after m b) s
 
 gives-turns : (m : Mode) (b : ℕ) → walk turns (isIn m) (gives m b) ≡ isIn (after m b)
-unfolding walk gives after
-gives-turns Out b = go (eqb b 96) (eqb b 34) refl refl
-  where
-    go : (x y : Bool) → eqb b 96 ≡ x → eqb b 34 ≡ y → walk turns false (gives Out b) ≡ isIn (after Out b)
-    go true y p q = simp p
-    go false true p q = simp (p, q)
-    go false false p q = simp (p, q)
-gives-turns OutGrave b = go (oneOf twelve b) refl
-  where
-    go : (x : Bool) → oneOf twelve b ≡ x → walk turns false (gives OutGrave b) ≡ false
-    go true p = simp p
-    go false p = simp p
-gives-turns In b = go (eqb b 96) (eqb b 34) refl refl
-  where
-    go : (x y : Bool) → eqb b 96 ≡ x → eqb b 34 ≡ y → walk turns true (gives In b) ≡ isIn (after In b)
-    go true y p q = simp p
-    go false true p q = simp (p, q)
-    go false false p q = simp (p, q)
-gives-turns InGrave b = go (oneOf two b) refl
-  where
-    go : (x : Bool) → oneOf two b ≡ x → walk turns true (gives InGrave b) ≡ true
-    go true p = simp p
-    go false p = simp p
+unfolding walk
+gives-turns m b =
+    gives-case (λ k g n. walk turns (isIn k) g ≡ isIn n) b (λ _. refl) (λ _ _. refl) (λ _ _. refl) (λ _. refl) (λ _. refl) (λ _. refl) (λ _ _. refl) (λ _ _. refl) (λ _. refl)
+    (λ _. refl) m
 
 end-turns : (m : Mode) → walk turns (isIn m) (atEnd m) ≡ isIn m
 unfolding walk
@@ -175,25 +124,11 @@ mark-over i q (x ∷ a) r =
 
 -- j is the place of the next byte, i that of the sign that is not told yet
 mark-step : (m : Mode) (b i j q r : ℕ) → j ≡ i + pend m → (isIn m ≡ true → q ≡ r) → isIn (after m b) ≡ true → opens m b j q ≡ lastMark i r (gives m b)
-unfolding after gives lastMark
-mark-step Out b i j q r e h k = go (eqb b 96) (eqb b 34) refl refl
-  where
-    go : (x y : Bool) → eqb b 96 ≡ x → eqb b 34 ≡ y → cond (eqb b 34) j q ≡ lastMark i r (gives Out b)
-    go true y p t = no-case (sym (simp p at k))
-    go false true p t = simp (p, t) (omega arith)
-    go false false p t = no-case (sym (simp (p, t) at k))
-mark-step OutGrave b i j q r e h k = no-case (sym k)
-mark-step In b i j q r e h k = go (eqb b 96) (eqb b 34) refl refl
-  where
-    go : (x y : Bool) → eqb b 96 ≡ x → eqb b 34 ≡ y → q ≡ lastMark i r (gives In b)
-    go true y p t = simp p (h refl)
-    go false true p t = no-case (sym (simp (p, t) at k))
-    go false false p t = simp (p, t) (h refl)
-mark-step InGrave b i j q r e h k = go (oneOf two b) refl
-  where
-    go : (x : Bool) → oneOf two b ≡ x → q ≡ lastMark i r (gives InGrave b)
-    go true p = simp p (h refl)
-    go false p = simp p (h refl)
+unfolding lastMark
+mark-step m b i j q r =
+    gives-case (λ k g n. j ≡ i + pend k → (isIn k ≡ true → q ≡ r) → isIn n ≡ true → opens k b j q ≡ lastMark i r g) b (λ _ e h t. no-case (sym t)) (λ _ p e h t. rw p (omega arith))
+    (λ _ _ e h t. no-case (sym t)) (λ _ e h t. no-case (sym t)) (λ _ e h t. no-case (sym t)) (λ _ e h t. h refl) (λ _ _ e h t. no-case (sym t)) (λ _ _ e h t. h refl) (λ _ e h t. h refl)
+    (λ _ e h t. h refl) m
 
 end-mark : (m : Mode) (i r : ℕ) → lastMark i r (atEnd m) ≡ r
 unfolding lastMark
@@ -344,7 +279,7 @@ judged line = by (decLt 1024 (length line)) (decLt (runLen printable line) (leng
     by : Dec (1024 < length line) → Dec (runLen printable line < length line) → (x y : Bool) → Dec (64 < length (termsOf line)) → endsLone (lineSigns line) ≡ x → endsOpen (lineSigns line) ≡ y
         → Case line
     by (yes a) b x y c p q = is1 (record { over = a; at = refl })
-    by (no a) (yes b) x y c p q = is2 (record { short = omega arith; within = b; odd = run-fails printable line b; first = run-passes printable line })
+    by (no a) (yes b) x y c p q = is2 (record { short = omega arith; within = b; odd = run-fails printable line 0 b; first = run-passes printable line })
     by (no a) (no b) true y c p q = is3 (record { short = omega arith; clean = all b; lone = p; at = refl })
     by (no a) (no b) false true c p q = is4 (record { short = omega arith; clean = all b; paired = p; opened = q; at = refl })
     by (no a) (no b) false false (yes c) p q = is5 (record { short = omega arith; clean = all b; paired = p; closed = q; many = c; at = refl })

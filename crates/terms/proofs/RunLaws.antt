@@ -8,27 +8,28 @@ use lib.ListN.{length, take, drop}
 use lib.Seq.{drop-drop}
 use lib.Dec.{eqb}
 use Rattle.text.specs.Lists.{anyOf, runLen, walk}
-use Rattle.text.proofs.Basics.{and-l, and-r, neg}
+use Rattle.text.proofs.Basics.{and-l, and-r}
 use Rattle.text.proofs.Scans.{run-within}
 use Rattle.text.proofs.Slices.{part-from, length-from}
 use Rattle.terms.specs.declared.Mode.the-variants.{Out}
 use Rattle.terms.specs.Signs.{after, gives, signs, isBare}
 use Rattle.terms.specs.Rows.{endMode, opens, openedAt}
 use Rattle.terms.specs.Scan.{termLen, ordinary}
+use borrow.Author.Tests.{not-true}
 
 -- what is known of such a byte
 module _ (stop b : ℕ) (e : ordinary stop b ≡ true) where
   not-grave : eqb b 96 ≡ false
   unfolding ordinary
-  not-grave = neg (eqb b 96) (and-l (not (eqb b 96)) (not (eqb b 34) && not (eqb b stop)) e)
+  not-grave = not-true (eqb b 96) (and-l (not (eqb b 96)) (not (eqb b 34) && not (eqb b stop)) e)
 
   not-quote : eqb b 34 ≡ false
   unfolding ordinary
-  not-quote = neg (eqb b 34) (and-l (not (eqb b 34)) (not (eqb b stop)) (and-r (not (eqb b 96)) (not (eqb b 34) && not (eqb b stop)) e))
+  not-quote = not-true (eqb b 34) (and-l (not (eqb b 34)) (not (eqb b stop)) (and-r (not (eqb b 96)) (not (eqb b 34) && not (eqb b stop)) e))
 
   not-stop : eqb b stop ≡ false
   unfolding ordinary
-  not-stop = neg (eqb b stop) (and-r (not (eqb b 34)) (not (eqb b stop)) (and-r (not (eqb b 96)) (not (eqb b 34) && not (eqb b stop)) e))
+  not-stop = not-true (eqb b stop) (and-r (not (eqb b 34)) (not (eqb b stop)) (and-r (not (eqb b 96)) (not (eqb b 34) && not (eqb b stop)) e))
 
   stays : after Out b ≡ Out
   unfolding after

@@ -2,7 +2,7 @@
 use Prim.Native.Nat.{ℕ, zero, suc, _+_, _-_, _<_, _≤_}
 use mathlib.Core.Path.{_≡_, refl, sym, ap, _∙_}
 use mathlib.Core.List.{List, [], _∷_, _++_}
-use mathlib.Core.Bool.{Bool, true, false, cond, _||_}
+use mathlib.Core.Bool.{Bool, true, false, cond, _||_, or-false}
 use native.Mathlib.Omega.{arith}
 use native.Mathlib.Nat.{add-sub-cancel-left}
 use lib.ListN.{length, getD, drop, drop-of-length-le, length-append}
@@ -13,7 +13,7 @@ use Rattle.text.specs.declared.Verdict.the-variants.{Flawed}
 use Rattle.text.specs.Bytes.{oneOf}
 use Rattle.text.specs.Lists.{anyOf, walk}
 use Rattle.text.proofs.Scans.{drop-step}
-use Rattle.text.proofs.Writes.{sets-append}
+use Rattle.text.proofs.Writes.{sets-rest}
 use Rattle.terms.specs.declared.Mode.{Mode}
 use Rattle.terms.specs.declared.Mode.the-variants.{Out, OutGrave, In, InGrave}
 use Rattle.terms.specs.declared.Found.the-variants as found
@@ -23,6 +23,8 @@ use Rattle.terms.specs.Terms.{Term}
 use Rattle.terms.specs.Rows.{longFlaw, endMode, opens, openedAt, endFlaw, openFlaw, manyFrom, lexicalOf}
 use Rattle.terms.specs.Scan.{gapByte, termLen, found, startAt, termAt}
 use Rattle.terms.proofs.TermLaws.{pend, stands-on, stands-past, meant-length}
+use Rattle.text.proofs.Basics.{any-over}
+use Rattle.terms.proofs.ByteCases.{gives-case, out-case, out-grave-case, in-case, in-grave-case}
 
 -- ---- the term at a place
 
@@ -88,35 +90,22 @@ many-on k t ts h = rw (ne-eqb k 64 h)
 -- ---- tests on signs
 
 module _ (f : Sign → Bool) where
-  any-over : (a r : List Sign) → anyOf f (a ++ r) ≡ anyOf f a || anyOf f r
-  unfolding anyOf
-  any-over [] r = refl
-  any-over (x ∷ a) r = go (f x) (any-over a r)
-    where
-      go : (t : Bool) → anyOf f (a ++ r) ≡ anyOf f a || anyOf f r → t || anyOf f (a ++ r) ≡ (t || anyOf f a) || anyOf f r
-      go true e = refl
-      go false e = e
-
   pub some-on : (s : List ℕ) (i : ℕ) (m m′ : Mode) → i < length s → m′ ≡ after m (getD s i 0) → anyOf f (gives m (getD s i 0)) ≡ false
       → anyOf f (signs m′ (drop (i + 1) s)) ≡ anyOf f (signs m (drop i s))
   unfolding signs
   some-on s i m m′ h e g =
       sym (ap (λ (z : List ℕ). anyOf f (signs m z)) (drop-step s i h)
-      ∙ any-over (gives m (getD s i 0)) (signs (after m (getD s i 0)) (drop (i + 1) s))
+      ∙ any-over f (gives m (getD s i 0)) (signs (after m (getD s i 0)) (drop (i + 1) s))
       ∙ rw (g, e))
 
   pub some-stops : (s : List ℕ) (i : ℕ) (m : Mode) → i < length s → anyOf f (gives m (getD s i 0)) ≡ true → anyOf f (signs m (drop i s)) ≡ true
   unfolding signs
   some-stops s i m h g =
-      ap (λ (z : List ℕ). anyOf f (signs m z)) (drop-step s i h) ∙ any-over (gives m (getD s i 0)) (signs (after m (getD s i 0)) (drop (i + 1) s)) ∙ rw g
+      ap (λ (z : List ℕ). anyOf f (signs m z)) (drop-step s i h) ∙ any-over f (gives m (getD s i 0)) (signs (after m (getD s i 0)) (drop (i + 1) s)) ∙ rw g
 
   pub some-past : (s : List ℕ) (i : ℕ) (m : Mode) → length s ≤ i → anyOf f (signs m (drop i s)) ≡ anyOf f (atEnd m)
   unfolding signs
   some-past s i m h = ap (λ (z : List ℕ). anyOf f (signs m z)) (drop-of-length-le s h)
-
-or-false : (t : Bool) → t || false ≡ t
-or-false true = refl
-or-false false = refl
 
 -- what a byte gives outside quotes, what it gives after a GRAVE that does not escape it, and what a lone last GRAVE is
 pub out-is-bare : (n b : ℕ) → (b ≡ 96 → ⊥) → (b ≡ 34 → ⊥) → anyOf (isBare n) (gives Out b) ≡ eqb b n
@@ -133,56 +122,29 @@ end-is-bare n = or-false (eqb 96 n)
 
 -- what a byte gives inside quotes is not bare
 pub in-no-bare : (n b : ℕ) → anyOf (isBare n) (gives In b) ≡ false
-unfolding anyOf gives
-in-no-bare n b = go (eqb b 96) (eqb b 34) refl refl
-  where
-    go : (x y : Bool) → eqb b 96 ≡ x → eqb b 34 ≡ y → anyOf (isBare n) (gives In b) ≡ false
-    go true y p q = simp p
-    go false true p q = simp (p, q)
-    go false false p q = simp (p, q)
+unfolding anyOf
+in-no-bare n b = in-case (λ g m. anyOf (isBare n) g ≡ false) b (λ _. refl) (λ _ _. refl) (λ _ _. refl)
 
 pub in-grave-no-bare : (n b : ℕ) → anyOf (isBare n) (gives InGrave b) ≡ false
-unfolding anyOf gives
-in-grave-no-bare n b = go (oneOf two b) refl
-  where
-    go : (x : Bool) → oneOf two b ≡ x → anyOf (isBare n) (gives InGrave b) ≡ false
-    go true p = simp p
-    go false p = simp p
+unfolding anyOf
+in-grave-no-bare n b = in-grave-case (λ g m. anyOf (isBare n) g ≡ false) b (λ _. refl) (λ _. refl)
 
 -- a byte that no GRAVE takes gives a quote mark exactly where it is one
 pub out-mark : (b : ℕ) → anyOf isMark (gives Out b) ≡ eqb b 34
-unfolding anyOf gives
-out-mark b = go (eqb b 96) (eqb b 34) refl refl
-  where
-    go : (x y : Bool) → eqb b 96 ≡ x → eqb b 34 ≡ y → anyOf isMark (gives Out b) ≡ eqb b 34
-    go true y p q = rw (eqb-true b 96 p)
-    go false true p q = simp (p, q)
-    go false false p q = simp (p, q)
+unfolding anyOf
+out-mark b = out-case (λ g m. anyOf isMark g ≡ eqb b 34) b (λ p. rw (eqb-true b 96 p)) (λ _ q. sym q) (λ _ q. sym q)
 
 pub in-mark : (b : ℕ) → anyOf isMark (gives In b) ≡ eqb b 34
-unfolding anyOf gives
-in-mark b = go (eqb b 96) (eqb b 34) refl refl
-  where
-    go : (x y : Bool) → eqb b 96 ≡ x → eqb b 34 ≡ y → anyOf isMark (gives In b) ≡ eqb b 34
-    go true y p q = rw (eqb-true b 96 p)
-    go false true p q = simp (p, q)
-    go false false p q = simp (p, q)
+unfolding anyOf
+in-mark b = in-case (λ g m. anyOf isMark g ≡ eqb b 34) b (λ p. rw (eqb-true b 96 p)) (λ _ q. sym q) (λ _ q. sym q)
 
 pub out-grave-no-mark : (b : ℕ) → anyOf isMark (gives OutGrave b) ≡ false
-unfolding anyOf gives
-out-grave-no-mark b = go (oneOf twelve b) refl
-  where
-    go : (x : Bool) → oneOf twelve b ≡ x → anyOf isMark (gives OutGrave b) ≡ false
-    go true p = simp p
-    go false p = simp p
+unfolding anyOf
+out-grave-no-mark b = out-grave-case (λ g m. anyOf isMark g ≡ false) b (λ _. refl) (λ _. refl)
 
 pub in-grave-no-mark : (b : ℕ) → anyOf isMark (gives InGrave b) ≡ false
-unfolding anyOf gives
-in-grave-no-mark b = go (oneOf two b) refl
-  where
-    go : (x : Bool) → oneOf two b ≡ x → anyOf isMark (gives InGrave b) ≡ false
-    go true p = simp p
-    go false p = simp p
+unfolding anyOf
+in-grave-no-mark b = in-grave-case (λ g m. anyOf isMark g ≡ false) b (λ _. refl) (λ _. refl)
 
 pub end-no-mark : (m : Mode) → anyOf isMark (atEnd m) ≡ false
 unfolding anyOf
@@ -230,28 +192,15 @@ starts-grave n (b ∷ c ∷ s) e k t = simp (k, t)
 
 pub one-in : (b : ℕ) → stands (gives In b) ≡ stands (gives Out b)
 unfolding stands gives
-one-in b = go (eqb b 96) (eqb b 34) refl refl
-  where
-    go : (x y : Bool) → eqb b 96 ≡ x → eqb b 34 ≡ y → stands (gives In b) ≡ stands (gives Out b)
-    go true y p q = simp p
-    go false true p q = simp (p, q)
-    go false false p q = simp (p, q)
+one-in b = in-case (λ g m. stands g ≡ stands (gives Out b)) b (λ p. simp p) (λ p q. simp (p, q)) (λ p q. simp (p, q))
 
 pub pair-out : (b : ℕ) → stands (gives OutGrave b) ≡ cond (oneOf twelve b) (b ∷ []) (96 ∷ b ∷ [])
-unfolding stands gives
-pair-out b = go (oneOf twelve b) refl
-  where
-    go : (x : Bool) → oneOf twelve b ≡ x → stands (gives OutGrave b) ≡ cond (oneOf twelve b) (b ∷ []) (96 ∷ b ∷ [])
-    go true p = simp p
-    go false p = simp p
+unfolding stands
+pair-out b = out-grave-case (λ g m. stands g ≡ cond (oneOf twelve b) (b ∷ []) (96 ∷ b ∷ [])) b (λ p. rw p) (λ p. rw p)
 
 pub pair-in : (b : ℕ) → stands (gives InGrave b) ≡ cond (oneOf two b) (b ∷ []) (96 ∷ b ∷ [])
-unfolding stands gives
-pair-in b = go (oneOf two b) refl
-  where
-    go : (x : Bool) → oneOf two b ≡ x → stands (gives InGrave b) ≡ cond (oneOf two b) (b ∷ []) (96 ∷ b ∷ [])
-    go true p = simp p
-    go false p = simp p
+unfolding stands
+pair-in b = in-grave-case (λ g m. stands g ≡ cond (oneOf two b) (b ∷ []) (96 ∷ b ∷ [])) b (λ p. rw p) (λ p. rw p)
 
 pub pair-length : (x : Bool) (b : ℕ) → length (cond x (b ∷ []) (96 ∷ b ∷ [])) ≡ cond x 1 2
 pair-length true b = refl
@@ -259,29 +208,10 @@ pair-length false b = refl
 
 -- a waiting GRAVE apart, a byte stands for at most one more
 pub stands-width : (m : Mode) (b : ℕ) → length (stands (gives m b)) + pend (after m b) ≤ pend m + 1
-unfolding gives after stands
-stands-width Out b = go (eqb b 96) (eqb b 34) refl refl
-  where
-    go : (x y : Bool) → eqb b 96 ≡ x → eqb b 34 ≡ y → length (stands (gives Out b)) + pend (after Out b) ≤ 1
-    go true y p q = simp p (omega arith)
-    go false true p q = simp (p, q) (omega arith)
-    go false false p q = simp (p, q) (omega arith)
-stands-width OutGrave b = go (oneOf twelve b) refl
-  where
-    go : (x : Bool) → oneOf twelve b ≡ x → length (stands (gives OutGrave b)) + pend (after OutGrave b) ≤ 2
-    go true p = simp p (omega arith)
-    go false p = simp p (omega arith)
-stands-width In b = go (eqb b 96) (eqb b 34) refl refl
-  where
-    go : (x y : Bool) → eqb b 96 ≡ x → eqb b 34 ≡ y → length (stands (gives In b)) + pend (after In b) ≤ 1
-    go true y p q = simp p (omega arith)
-    go false true p q = simp (p, q) (omega arith)
-    go false false p q = simp (p, q) (omega arith)
-stands-width InGrave b = go (oneOf two b) refl
-  where
-    go : (x : Bool) → oneOf two b ≡ x → length (stands (gives InGrave b)) + pend (after InGrave b) ≤ 2
-    go true p = simp p (omega arith)
-    go false p = simp p (omega arith)
+unfolding stands
+stands-width m b =
+    gives-case (λ k g n. length (stands g) + pend n ≤ pend k + 1) b (λ _. omega arith) (λ _ _. omega arith) (λ _ _. omega arith) (λ _. omega arith) (λ _. omega arith)
+    (λ _. omega arith) (λ _ _. omega arith) (λ _ _. omega arith) (λ _. omega arith) (λ _. omega arith) m
 
 pub width-on : (m m′ : Mode) (b w d i : ℕ) → m′ ≡ after m b → d ≡ length (stands (gives m b)) → w + pend m ≤ i → w + d + pend m′ ≤ i + 1
 width-on m m′ b w d i e f h = let z = stands-width m b in let k : pend m′ ≡ pend (after m b) = ap pend e in omega arith
@@ -317,11 +247,8 @@ pub stored-on : (s out out′ : List ℕ) (at w d i : ℕ) (m m′ : Mode) → i
 stored-on s out out′ at w d i m m′ h e f g =
     let v = stands (gives m (getD s i 0)) in
     let r = stands (signs (after m (getD s i 0)) (drop (i + 1) s)) in
-    let z : at + (w + d) ≡ at + w + length v = omega arith in
     ap (λ (x : Mode). sets out′ (at + (w + d)) (stands (signs x (drop (i + 1) s)))) e
-    ∙ ap (λ (x : List ℕ). sets x (at + (w + d)) r) g
-    ∙ ap (λ (x : ℕ). sets (sets out (at + w) v) x r) z
-    ∙ sets-append v r out (at + w)
+    ∙ sets-rest out v out′ (at + w) (at + (w + d)) g (omega arith) r
     ∙ ap (sets out (at + w)) (sym (stands-on s i m h))
 
 pub stored-end : (s out out′ : List ℕ) (at w i : ℕ) (m : Mode) → length s ≤ i → out′ ≡ sets out (at + w) (stands (atEnd m)) → out′ ≡ sets out (at + w) (stands (signs m (drop i s)))

@@ -10,50 +10,30 @@ use lib.Seq.{drop-drop}
 use lib.Dec.{eqb}
 use borrow.Author.Tests.{eqb-true, le-leb, lt-ltb}
 use Rattle.text.specs.Bytes.{bytes, oneOf}
-use Rattle.text.specs.Lists.{anyOf, upTo, runLen, walk}
-use Rattle.text.proofs.Basics.{or-l, or-r, no-case}
+use Rattle.text.specs.Lists.{anyOf, upTo, runLen, walk, allOf}
+use Rattle.text.proofs.Basics.{and-l, and-r, or-l, or-r, no-case, up-over}
+use Rattle.text.proofs.Classes.{other-byte}
 use Rattle.text.proofs.Slices.{length-between}
 use Rattle.text.proofs.Scans.{drop-step}
 use Rattle.terms.specs.declared.Mode.{Mode}
 use Rattle.terms.specs.declared.Mode.the-variants.{Out, OutGrave, In, InGrave}
 use Rattle.terms.specs.declared.Found.{Found}
 use Rattle.terms.specs.declared.Found.the-variants as found
-use Rattle.terms.specs.Signs.{Sign, bare, escaped, quote, quoted, quotedEscaped, twelve, two, after, gives, atEnd, signs, raw, raws, standsFor, stands, meant}
+use Rattle.terms.specs.Signs.{Sign, bare, escaped, quote, quoted, quotedEscaped, twelve, two, after, gives, atEnd, signs, raw, raws, standsFor, stands, meant, isBare, bares}
 use Rattle.terms.specs.Terms.{isGap, Term, termsFrom, termsOf}
 use Rattle.terms.specs.Rows.{endMode}
 use Rattle.terms.specs.Scan.{isSpace, gapByte, termLen, found, startAt, termAt}
 use Rattle.terms.specs.Going.{going, sizeOf, answerOf, inOrder}
+use Rattle.terms.proofs.ByteCases.{gives-case, out-case, grave-first}
 
 -- ---- what one byte gives
 
-grave-space : (b : ℕ) → oneOf twelve b ≡ false → eqb b 32 ≡ false
-unfolding oneOf twelve bytes
-grave-space b e = or-l (eqb b 32) (oneOf (bytes "`\",=-/\\.()*") b) e
-
 gives-solid : (m : Mode) (b : ℕ) → gapByte m b ≡ false → anyOf isGap (gives m b) ≡ false
-unfolding gives anyOf
-gives-solid Out b e = go (eqb b 96) (eqb b 34) refl refl
-  where
-    go : (x y : Bool) → eqb b 96 ≡ x → eqb b 34 ≡ y → anyOf isGap (gives Out b) ≡ false
-    go true y p q = simp p
-    go false true p q = simp (p, q)
-    go false false p q = simp (p, q, e)
-gives-solid OutGrave b e = go (oneOf twelve b) refl
-  where
-    go : (x : Bool) → oneOf twelve b ≡ x → anyOf isGap (gives OutGrave b) ≡ false
-    go true p = simp p
-    go false p = simp (p, grave-space b p)
-gives-solid In b e = go (eqb b 96) (eqb b 34) refl refl
-  where
-    go : (x y : Bool) → eqb b 96 ≡ x → eqb b 34 ≡ y → anyOf isGap (gives In b) ≡ false
-    go true y p q = simp p
-    go false true p q = simp (p, q)
-    go false false p q = simp (p, q)
-gives-solid InGrave b e = go (oneOf two b) refl
-  where
-    go : (x : Bool) → oneOf two b ≡ x → anyOf isGap (gives InGrave b) ≡ false
-    go true p = simp p
-    go false p = simp p
+unfolding anyOf oneOf twelve bytes
+gives-solid m b =
+    gives-case (λ k g n. gapByte k b ≡ false → anyOf isGap g ≡ false) b (λ _ e. refl) (λ _ _ e. refl) (λ _ _ e. simp e) (λ _ e. refl)
+    (λ p e. simp (other-byte (oneOf twelve) 32 b false refl p))
+    (λ _ e. refl) (λ _ _ e. refl) (λ _ _ e. refl) (λ _ e. refl) (λ _ e. refl) m
 
 -- a GRAVE whose sign is not told yet
 abbrev pub pend : Mode → ℕ
@@ -63,29 +43,10 @@ pend In = 0
 pend InGrave = 1
 
 pub gives-width : (m : Mode) (b : ℕ) → length (raws (gives m b)) + pend (after m b) ≡ pend m + 1
-unfolding gives after raws
-gives-width Out b = go (eqb b 96) (eqb b 34) refl refl
-  where
-    go : (x y : Bool) → eqb b 96 ≡ x → eqb b 34 ≡ y → length (raws (gives Out b)) + pend (after Out b) ≡ pend Out + 1
-    go true y p q = simp p
-    go false true p q = simp (p, q)
-    go false false p q = simp (p, q)
-gives-width OutGrave b = go (oneOf twelve b) refl
-  where
-    go : (x : Bool) → oneOf twelve b ≡ x → length (raws (gives OutGrave b)) + pend (after OutGrave b) ≡ pend OutGrave + 1
-    go true p = simp p
-    go false p = simp p
-gives-width In b = go (eqb b 96) (eqb b 34) refl refl
-  where
-    go : (x y : Bool) → eqb b 96 ≡ x → eqb b 34 ≡ y → length (raws (gives In b)) + pend (after In b) ≡ pend In + 1
-    go true y p q = simp p
-    go false true p q = simp (p, q)
-    go false false p q = simp (p, q)
-gives-width InGrave b = go (oneOf two b) refl
-  where
-    go : (x : Bool) → oneOf two b ≡ x → length (raws (gives InGrave b)) + pend (after InGrave b) ≡ pend InGrave + 1
-    go true p = simp p
-    go false p = simp p
+unfolding raws
+gives-width m b =
+    gives-case (λ k g n. length (raws g) + pend n ≡ pend k + 1) b (λ _. refl) (λ _ _. refl) (λ _ _. refl) (λ _. refl) (λ _. refl) (λ _. refl) (λ _ _. refl) (λ _ _. refl) (λ _. refl)
+    (λ _. refl) m
 
 -- the one byte that parts terms
 gap-byte : (m : Mode) (b : ℕ) → gapByte m b ≡ true → (m ≡ Out) × (b ≡ 32)
@@ -95,11 +56,6 @@ gap-byte In b e = no-case (sym e)
 gap-byte InGrave b e = no-case (sym e)
 
 -- ---- signs with no gap among them
-
-up-solid : (a r : List Sign) → anyOf isGap a ≡ false → upTo isGap (a ++ r) ≡ a ++ upTo isGap r
-unfolding anyOf upTo
-up-solid [] r e = refl
-up-solid (x ∷ a) r e = simp (or-l (isGap x) (anyOf isGap a) e, up-solid a r (or-r (isGap x) (anyOf isGap a) e))
 
 skip-solid : (i : ℕ) (a r : List Sign) → anyOf isGap a ≡ false → termsFrom i false (a ++ r) ≡ termsFrom (i + length (raws a)) false r
 unfolding anyOf termsFrom raws
@@ -117,10 +73,6 @@ end-solid OutGrave = refl
 end-solid In = refl
 end-solid InGrave = refl
 
-space-signs : (s : List ℕ) → signs Out (32 ∷ s) ≡ bare 32 ∷ signs Out s
-unfolding signs gives after
-space-signs s = refl
-
 pub text-slice : (m : Mode) (s : List ℕ) → upTo isGap (signs m s) ≡ signs m (take (termLen m s) s)
 unfolding signs termLen
 text-slice m [] = end-solid m
@@ -131,7 +83,7 @@ text-slice m (b ∷ s) = go (gapByte m b) refl (text-slice (after m b) s)
     go true e ih =
         let g = gap-byte m b e in
         rw e (rw (g .0, g .1) (unfold upTo gives after in refl))
-    go false e ih = rw e (up-solid (gives m b) (signs (after m b) s) (gives-solid m b e) ∙ ap (λ z. gives m b ++ z) ih)
+    go false e ih = rw e (up-over isGap (gives m b) (signs (after m b) s) (gives-solid m b e) ∙ ap (λ z. gives m b ++ z) ih)
 
 -- ---- the terms from a term's end on
 
@@ -174,22 +126,12 @@ head-term i [] e = no-case (sym e)
 head-term i (x ∷ xs) e = rw e
 
 grave-head : (s : List ℕ) → solidHead (signs OutGrave s) ≡ true
-unfolding signs solidHead gives
-grave-head [] = refl
-grave-head (b ∷ s) = go (oneOf twelve b) refl
-  where
-    go : (x : Bool) → oneOf twelve b ≡ x → solidHead (signs OutGrave (b ∷ s)) ≡ true
-    go true p = simp p
-    go false p = simp p
+unfolding solidHead
+grave-head s = grave-first (λ z. solidHead z ≡ true) (λ r. refl) (λ b r. refl) s
 
 out-head : (b : ℕ) (s : List ℕ) → eqb b 32 ≡ false → solidHead (signs Out (b ∷ s)) ≡ true
-unfolding signs solidHead gives after
-out-head b s e = go (eqb b 96) (eqb b 34) refl refl
-  where
-    go : (x y : Bool) → eqb b 96 ≡ x → eqb b 34 ≡ y → solidHead (signs Out (b ∷ s)) ≡ true
-    go true y p q = simp p (grave-head s)
-    go false true p q = simp (p, q)
-    go false false p q = simp (p, q, e)
+unfolding signs solidHead
+out-head b s e = out-case (λ g n. solidHead (g ++ signs n s) ≡ true) b (λ _. grave-head s) (λ _ _. refl) (λ _ _. simp e)
 
 after-found : Found → List ℕ → List Term → List Term
 after-found found.None l r = []
@@ -284,29 +226,11 @@ raws-append [] b = refl
 raws-append (x ∷ a) b = ap (λ z. raw x ++ z) (raws-append a b) ∙ sym (append-assoc (raw x) (raws a) (raws b))
 
 gives-raw : (m : Mode) (b : ℕ) (s : List ℕ) → raws (gives m b) ++ (held (after m b) ++ s) ≡ held m ++ (b ∷ s)
-unfolding gives after raws held
-gives-raw Out b s = go (eqb b 96) (eqb b 34) refl refl
-  where
-    go : (x y : Bool) → eqb b 96 ≡ x → eqb b 34 ≡ y → raws (gives Out b) ++ (held (after Out b) ++ s) ≡ b ∷ s
-    go true y p q = simp p (ap (λ z. z ∷ s) (sym (eqb-true b 96 p)))
-    go false true p q = simp (p, q) (ap (λ z. z ∷ s) (sym (eqb-true b 34 q)))
-    go false false p q = simp (p, q)
-gives-raw OutGrave b s = go (oneOf twelve b) refl
-  where
-    go : (x : Bool) → oneOf twelve b ≡ x → raws (gives OutGrave b) ++ (held (after OutGrave b) ++ s) ≡ 96 ∷ b ∷ s
-    go true p = simp p
-    go false p = simp p
-gives-raw In b s = go (eqb b 96) (eqb b 34) refl refl
-  where
-    go : (x y : Bool) → eqb b 96 ≡ x → eqb b 34 ≡ y → raws (gives In b) ++ (held (after In b) ++ s) ≡ b ∷ s
-    go true y p q = simp p (ap (λ z. z ∷ s) (sym (eqb-true b 96 p)))
-    go false true p q = simp (p, q) (ap (λ z. z ∷ s) (sym (eqb-true b 34 q)))
-    go false false p q = simp (p, q)
-gives-raw InGrave b s = go (oneOf two b) refl
-  where
-    go : (x : Bool) → oneOf two b ≡ x → raws (gives InGrave b) ++ (held (after InGrave b) ++ s) ≡ 96 ∷ b ∷ s
-    go true p = simp p
-    go false p = simp p
+unfolding raws held
+gives-raw m b s =
+    let is : (k : ℕ) → eqb b k ≡ true → k ∷ s ≡ b ∷ s = λ k p. ap (λ z. z ∷ s) (sym (eqb-true b k p)) in
+    gives-case (λ k g n. raws g ++ (held n ++ s) ≡ held k ++ (b ∷ s)) b (is 96) (λ _. is 34) (λ _ _. refl) (λ _. refl) (λ _. refl) (is 96) (λ _. is 34) (λ _ _. refl) (λ _. refl)
+    (λ _. refl) m
 
 ends : (m : Mode) → raws (atEnd m) ≡ held m ++ []
 unfolding raws held
@@ -352,6 +276,37 @@ pub stands-past : (l : List ℕ) (i : ℕ) (m : Mode) → length l ≤ i → sta
 unfolding signs
 stands-past l i m h = ap (λ z. stands (signs m z)) (drop-of-length-le l h)
 
+-- ---- bytes that are themselves
+
+-- outside quotes a byte that is neither GRAVE nor `"`
+pub bare-signs : (b : ℕ) (s : List ℕ) → eqb b 96 ≡ false → eqb b 34 ≡ false → signs Out (b ∷ s) ≡ bare b ∷ signs Out s
+unfolding signs gives after
+bare-signs b s g q = simp (g, q)
+
+-- a text of such bytes: f passes no other
+pub bares-signs : (f : ℕ → Bool) → f 96 ≡ false → f 34 ≡ false → (s v : List ℕ) → allOf f s ≡ true → signs Out (s ++ v) ≡ bares s ++ signs Out v
+unfolding allOf
+bares-signs f g q [] v e = refl
+bares-signs f g q (b ∷ s) v e =
+    let p = and-l (f b) (allOf f s) e in
+    bare-signs b (s ++ v) (other-byte f 96 b true g p) (other-byte f 34 b true q p) ∙ ap (λ (z : List Sign). bare b ∷ z) (bares-signs f g q s v (and-r (f b) (allOf f s) e))
+
+pub raws-bares : (s : List ℕ) → raws (bares s) ≡ s
+unfolding raws
+raws-bares [] = refl
+raws-bares (b ∷ s) = ap (λ (z : List ℕ). b ∷ z) (raws-bares s)
+
+pub stands-bares : (s : List ℕ) → stands (bares s) ≡ s
+unfolding stands
+stands-bares [] = refl
+stands-bares (b ∷ s) = ap (λ (z : List ℕ). b ∷ z) (stands-bares s)
+
+-- a byte that f does not pass stands in no text whose bytes it passes
+pub none-bares : (f : ℕ → Bool) (k : ℕ) → f k ≡ false → (s : List ℕ) → allOf f s ≡ true → anyOf (isBare k) (bares s) ≡ false
+unfolding allOf anyOf
+none-bares f k n [] e = refl
+none-bares f k n (b ∷ s) e = simp (other-byte f k b true n (and-l (f b) (allOf f s) e), none-bares f k n s (and-r (f b) (allOf f s) e))
+
 -- ---- signs of appended texts
 
 -- the signs that are told before a text's end
@@ -375,11 +330,6 @@ signs-append m s t e =
     signs-over m s t
     ∙ ap (λ (k : Mode). told m s ++ signs k t) e
     ∙ ap (λ (z : List Sign). z ++ signs Out t) (sym (signs-told m s ∙ ap (λ (k : Mode). told m s ++ atEnd k) e ∙ append-nil (told m s)))
-
-pub end-append : (m : Mode) (s t : List ℕ) → endMode m (s ++ t) ≡ endMode (endMode m s) t
-unfolding endMode walk
-end-append m [] t = refl
-end-append m (b ∷ s) t = end-append (after m b) s t
 
 pub meant-append : (s t : List ℕ) → endMode Out s ≡ Out → meant (s ++ t) ≡ meant s ++ meant t
 unfolding meant
@@ -444,11 +394,8 @@ term-past-end l at h = go (termAt l at) refl
     go (found.Term a n) e = let w = term-within l at a n (sym e) in let p = w .from in let q = w .some in let r = w .fits in absurd (omega arith)
 
 -- a term's own bytes
-pub term-raw : (l : List ℕ) (a n : ℕ) → raws (signs Out (take n (drop a l))) ≡ take n (drop a l)
-term-raw l a n = raws-signs (take n (drop a l))
-
 pub term-size : (l : List ℕ) (a n : ℕ) → a + n ≤ length l → length (raws (signs Out (take n (drop a l)))) ≡ n
-term-size l a n h = ap length (term-raw l a n) ∙ length-between l a n h
+term-size l a n h = ap length (raws-signs (take n (drop a l))) ∙ length-between l a n h
 
 -- ---- GOING ON FROM THE END OF EACH TERM yields the line's terms in order, and then none, however often it is asked again
 

@@ -1,6 +1,6 @@
 -- Terms and escapes, first half: a line is a list of signs, each with the bytes that it is and the bytes that it stands for.
 use Prim.Native.Nat.{ℕ}
-use mathlib.Core.List.{List, [], _∷_, _++_}
+use mathlib.Core.List.{List, [], _∷_, _++_, map}
 use mathlib.Core.Bool.{Bool, true, false, cond, not, _&&_}
 use lib.Dec.{eqb}
 use Rattle.text.specs.Bytes.{bytes, oneOf}
@@ -110,6 +110,10 @@ isBare n (escaped b) = false
 isBare n quote = false
 isBare n (quoted b) = false
 isBare n (quotedEscaped b) = false
+
+-- bytes that are neither escaped nor quoted
+abbrev pub bares : List ℕ → List Sign
+bares s = map bare s
 
 -- the bytes that a text stands for, and whether it has a bare byte of this kind
 unfoldable pub meant : List ℕ → List ℕ

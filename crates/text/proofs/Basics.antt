@@ -2,12 +2,12 @@
 use Prim.Native.Nat.{ℕ, zero, suc, _+_, _-_, _<_, _≤_}
 use mathlib.Core.Path.{_≡_, refl, sym, ap, _∙_}
 use mathlib.Core.List.{List, [], _∷_, _++_, map, append-assoc, append-nil}
-use mathlib.Core.Bool.{Bool, true, false, cond, not, _&&_, _||_}
+use mathlib.Core.Bool.{Bool, true, false, cond, not, _&&_, _||_, or-assoc, or-true}
 use mathlib.Core.Option.{Option, none, some}
 use native.Mathlib.Omega.{arith}
 use lib.ListN.{length, take, drop, length-append}
 use lib.Dec.{eqb, leb, ltb}
-use borrow.Author.Tests.{eqb-true, eq-eqb, ne-eqb, le-leb, lt-leb, leb-true, leb-false}
+use borrow.Author.Tests.{eqb-true, eq-eqb, not-true}
 use Rattle.text.specs.Lists.{allOf, anyOf, upTo, past, onto, parts, each, between, isNil, given, every}
 use Rattle.text.specs.Bytes.{sameBytes}
 
@@ -21,10 +21,6 @@ and-r false b e = cc
 
 pub and-in : (a b : Bool) → a ≡ true → b ≡ true → a && b ≡ true
 and-in a b e f = simp (e, f)
-
-pub and-false : (t : Bool) → t && false ≡ false
-and-false true = refl
-and-false false = refl
 
 pub or-l : (a b : Bool) → a || b ≡ false → a ≡ false
 or-l true b e = cc
@@ -45,11 +41,7 @@ pub or-case : {P : Type 0} (a b : Bool) → a || b ≡ true → (a ≡ true → 
 or-case true b e f g = f refl
 or-case false b e f g = g e
 
--- what a test that is turned round says, both ways
-pub neg : (t : Bool) → not t ≡ true → t ≡ false
-neg true p = cc
-neg false p = refl
-
+-- a test that is turned round
 pub neg-in : (t : Bool) → t ≡ false → not t ≡ true
 neg-in t p = simp p
 
@@ -123,35 +115,48 @@ module _ {A : Type 0} (f : A → Bool) where
       go true e ih = simp e (and-r (f x) (allOf f a) p)
       go false e ih = simp e ih
 
-  -- a text in which nothing passes the test, before one that does
-  pub up-at : (a : List A) (x : A) (b : List A) → anyOf f a ≡ false → f x ≡ true → upTo f (a ++ (x ∷ b)) ≡ a
+  -- a text in which nothing passes the test: before any other, before one that passes, and alone
+  pub up-over : (a r : List A) → anyOf f a ≡ false → upTo f (a ++ r) ≡ a ++ upTo f r
   unfolding anyOf upTo
-  up-at [] x b n e = simp e
-  up-at (y ∷ a) x b n e = simp (or-l (f y) (anyOf f a) n, up-at a x b (or-r (f y) (anyOf f a) n) e)
+  up-over [] r n = refl
+  up-over (y ∷ a) r n = simp (or-l (f y) (anyOf f a) n, up-over a r (or-r (f y) (anyOf f a) n))
+
+  pub up-at : (a : List A) (x : A) (b : List A) → anyOf f a ≡ false → f x ≡ true → upTo f (a ++ (x ∷ b)) ≡ a
+  unfolding upTo
+  up-at a x b n e = up-over a (x ∷ b) n ∙ rw e (append-nil a)
+
+  pub up-all : (a : List A) → anyOf f a ≡ false → upTo f a ≡ a
+  unfolding upTo
+  up-all a n = ap (upTo f) (sym (append-nil a)) ∙ up-over a [] n ∙ append-nil a
 
   pub past-at : (a : List A) (x : A) (b : List A) → anyOf f a ≡ false → f x ≡ true → past f (a ++ (x ∷ b)) ≡ b
   unfolding anyOf past
   past-at [] x b n e = simp e
   past-at (y ∷ a) x b n e = simp (or-l (f y) (anyOf f a) n, past-at a x b (or-r (f y) (anyOf f a) n) e)
 
-  pub up-all : (a : List A) → anyOf f a ≡ false → upTo f a ≡ a
-  unfolding anyOf upTo
-  up-all [] n = refl
-  up-all (y ∷ a) n = simp (or-l (f y) (anyOf f a) n, up-all a (or-r (f y) (anyOf f a) n))
+  -- a test of any of two lists after one another
+  pub any-over : (a r : List A) → anyOf f (a ++ r) ≡ anyOf f a || anyOf f r
+  unfolding anyOf
+  any-over [] r = refl
+  any-over (x ∷ a) r = ap (λ (t : Bool). f x || t) (any-over a r) ∙ sym (or-assoc (f x) (anyOf f a) (anyOf f r))
 
   pub any-at : (a : List A) (x : A) (b : List A) → f x ≡ true → anyOf f (a ++ (x ∷ b)) ≡ true
   unfolding anyOf
-  any-at [] x b e = simp e
-  any-at (y ∷ a) x b e = go (f y) refl (any-at a x b e)
-    where
-      go : (t : Bool) → f y ≡ t → anyOf f (a ++ (x ∷ b)) ≡ true → f y || anyOf f (a ++ (x ∷ b)) ≡ true
-      go true p ih = simp p
-      go false p ih = simp (p, ih)
+  any-at a x b e = any-over a (x ∷ b) ∙ rw e (or-true (anyOf f a))
 
   pub any-append : (a b : List A) → anyOf f a ≡ false → anyOf f b ≡ false → anyOf f (a ++ b) ≡ false
-  unfolding anyOf
-  any-append [] b p q = q
-  any-append (x ∷ a) b p q = simp (or-l (f x) (anyOf f a) p, any-append a b (or-r (f x) (anyOf f a) p) q)
+  any-append a b p q = any-over a b ∙ simp (p, q)
+
+  -- where one passes the test: what stands before it, it, and what stands after it
+  pub any-split : (s : List A) → anyOf f s ≡ true → (x : A) × (f x ≡ true) × (s ≡ upTo f s ++ (x ∷ past f s))
+  unfolding anyOf upTo past
+  any-split [] e = no-case (sym e)
+  any-split (y ∷ s) e = go (f y) refl (any-split s)
+    where
+      go : (t : Bool) → f y ≡ t → (anyOf f s ≡ true → (x : A) × (f x ≡ true) × (s ≡ upTo f s ++ (x ∷ past f s)))
+          → (x : A) × (f x ≡ true) × (y ∷ s ≡ upTo f (y ∷ s) ++ (x ∷ past f (y ∷ s)))
+      go true p ih = (y, p, rw p refl)
+      go false p ih = let r = ih (rw p at e) in (r .0, r .1, rw p (ap (λ (z : List A). y ∷ z) (r .2)))
 
   -- the parts of a text that begins with one in which nothing parts
   pub parts-none : (a : List A) → anyOf f a ≡ false → parts f a ≡ a ∷ []
@@ -172,13 +177,13 @@ module _ {A : Type 0} (f : A → Bool) where
   parts-each x a (w ∷ ws) e n h =
       let l = and-l (not (anyOf f w)) (allOf (λ v. not (anyOf f v)) ws) h in
       let r = and-r (not (anyOf f w)) (allOf (λ v. not (anyOf f v)) ws) h in
-      parts-at a x (w ++ each x ws) n e ∙ ap (λ z. a ∷ z) (parts-each x w ws e (neg (anyOf f w) l) r)
+      parts-at a x (w ++ each x ws) n e ∙ ap (λ z. a ∷ z) (parts-each x w ws e (not-true (anyOf f w) l) r)
 
   pub parts-between : (x : A) (a : List A) (ws : List (List A)) → f x ≡ true → allOf (λ w. not (anyOf f w)) (a ∷ ws) ≡ true
       → parts f (between x (a ∷ ws)) ≡ a ∷ ws
   unfolding between allOf
   parts-between x a ws e h =
-      parts-each x a ws e (neg (anyOf f a) (and-l (not (anyOf f a)) (allOf (λ v. not (anyOf f v)) ws) h)) (and-r (not (anyOf f a)) (allOf (λ v. not (anyOf f v)) ws) h)
+      parts-each x a ws e (not-true (anyOf f a) (and-l (not (anyOf f a)) (allOf (λ v. not (anyOf f v)) ws) h)) (and-r (not (anyOf f a)) (allOf (λ v. not (anyOf f v)) ws) h)
 
   -- each part of a text passes a test that each of its elements passes
   pub parts-all : (g : A → Bool) (a : List A) → allOf f a ≡ true → allOf (allOf f) (parts g a) ≡ true
@@ -234,14 +239,14 @@ module _ {A : Type 0} (f : A → Bool) where
   unfolding allOf each anyOf
   any-each x [] e k = refl
   any-each x (w ∷ ws) e k =
-      let l = neg (anyOf f w) (and-l (not (anyOf f w)) (allOf (λ v. not (anyOf f v)) ws) k) in
+      let l = not-true (anyOf f w) (and-l (not (anyOf f w)) (allOf (λ v. not (anyOf f v)) ws) k) in
       simp e (any-append w (each x ws) l (any-each x ws e (and-r (not (anyOf f w)) (allOf (λ v. not (anyOf f v)) ws) k)))
 
   pub any-between : (x : A) (ws : List (List A)) → f x ≡ false → allOf (λ w. not (anyOf f w)) ws ≡ true → anyOf f (between x ws) ≡ false
   unfolding allOf between anyOf
   any-between x [] e k = refl
   any-between x (w ∷ ws) e k =
-      let l = neg (anyOf f w) (and-l (not (anyOf f w)) (allOf (λ v. not (anyOf f v)) ws) k) in
+      let l = not-true (anyOf f w) (and-l (not (anyOf f w)) (allOf (λ v. not (anyOf f v)) ws) k) in
       any-append w (each x ws) l (any-each x ws e (and-r (not (anyOf f w)) (allOf (λ v. not (anyOf f v)) ws) k))
 
   -- all of the parts, and what stands between them
@@ -286,6 +291,12 @@ module _ {A : Type 0} (f : A → Bool) where
   all-mono g m [] e = refl
   all-mono g m (x ∷ s) e = simp (m x (and-l (f x) (allOf f s) e), all-mono g m s (and-r (f x) (allOf f s) e))
 
+  -- what holds of all keeps what it rules out away
+  pub all-none : (g : A → Bool) → ((x : A) → f x ≡ true → g x ≡ false) → (s : List A) → allOf f s ≡ true → anyOf g s ≡ false
+  unfolding allOf anyOf
+  all-none g m [] e = refl
+  all-none g m (x ∷ s) e = simp (m x (and-l (f x) (allOf f s) e), all-none g m s (and-r (f x) (allOf f s) e))
+
   -- all of what a function makes
   pub all-map : {B : Type 0} (h : B → A) (s : List B) → allOf f (map h s) ≡ allOf (λ x. f (h x)) s
   unfolding allOf
@@ -296,12 +307,21 @@ module _ {A : Type 0} (f : A → Bool) where
   pub none-any : (s : List A) → allOf (λ x. not (f x)) s ≡ true → anyOf f s ≡ false
   unfolding allOf anyOf
   none-any [] e = refl
-  none-any (x ∷ s) e = simp (neg (f x) (and-l (not (f x)) (allOf (λ y. not (f y)) s) e), none-any s (and-r (not (f x)) (allOf (λ y. not (f y)) s) e))
+  none-any (x ∷ s) e = simp (not-true (f x) (and-l (not (f x)) (allOf (λ y. not (f y)) s) e), none-any s (and-r (not (f x)) (allOf (λ y. not (f y)) s) e))
 
   pub any-none : (s : List A) → anyOf f s ≡ false → allOf (λ x. not (f x)) s ≡ true
   unfolding allOf anyOf
   any-none [] e = refl
   any-none (x ∷ s) e = simp (or-l (f x) (anyOf f s) e, any-none s (or-r (f x) (anyOf f s) e))
+
+-- a list that is empty, and one that a function makes of one that is not
+pub nil-is : {A : Type 0} (s : List A) → isNil s ≡ true → s ≡ []
+nil-is [] e = refl
+nil-is (x ∷ s) e = no-case (sym e)
+
+pub map-some : {A B : Type 0} (f : A → B) (s : List A) → isNil s ≡ false → isNil (map f s) ≡ false
+map-some f [] e = e
+map-some f (x ∷ s) e = refl
 
 -- all of them made again from what they were written as
 module _ {A B : Type 0} (read : B → Option A) (write : A → B) (ok : A → Bool) (again : (a : A) → ok a ≡ true → read (write a) ≡ some a) where

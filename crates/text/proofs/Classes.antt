@@ -2,12 +2,12 @@
 use Prim.Native.Nat.{ℕ, _<_, _≤_}
 use mathlib.Core.Path.{_≡_, refl, sym, ap, _∙_}
 use mathlib.Core.List.{List, [], _∷_}
-use mathlib.Core.Bool.{Bool, true, false, not, _&&_, _||_}
+use mathlib.Core.Bool.{Bool, true, false, not, _&&_, _||_, and-false}
 use native.Mathlib.Omega.{arith}
 use borrow.Author.Tests.{eq-eqb, ne-eqb, eqb-true, le-leb, lt-leb, leb-true}
 use lib.Dec.{eqb, leb}
 use Rattle.text.specs.Bytes.{oneOf, isLetter, isDigit, isWord, printable}
-use Rattle.text.proofs.Basics.{and-l, and-r, and-in, and-false, or-in-l, or-in-r, or-case, no-case}
+use Rattle.text.proofs.Basics.{and-l, and-r, or-in-l, or-in-r, or-case, no-case}
 
 -- a byte between two bounds, and outside them
 module _ (lo hi b : ℕ) where
@@ -61,6 +61,10 @@ module _ (b : ℕ) where
   pub digit-no-letter : isDigit b ≡ true → isLetter b ≡ false
   digit-no-letter e = let h = digit-bounds e in simp (lt-leb 65 b (omega arith), lt-leb 97 b (omega arith))
 
--- a byte of another class is another byte
-pub other-byte : (f : ℕ → Bool) (k b : ℕ) → f k ≡ false → f b ≡ true → eqb b k ≡ false
-other-byte f k b n e = ne-eqb b k (λ q. let z : true ≡ false = sym e ∙ ap f q ∙ n in no-case z)
+-- a byte of another class is another byte: x says whether the class has b, and k is not as b is
+pub other-byte : (f : ℕ → Bool) (k b : ℕ) (x : Bool) → f k ≡ not x → f b ≡ x → eqb b k ≡ false
+other-byte f k b x n e = ne-eqb b k (λ q. differs x (sym e ∙ ap f q ∙ n))
+  where
+    differs : (x : Bool) → x ≡ not x → ⊥
+    differs true z = no-case z
+    differs false z = no-case (sym z)

@@ -2,7 +2,7 @@
 use Prim.Native.Nat.{ℕ, suc, zero, _+_, _-_, _*_, _/_, _%_, _<_, _≤_}
 use mathlib.Core.Path.{_≡_, refl, sym, ap, _∙_}
 use mathlib.Core.List.{List, [], _∷_}
-use mathlib.Core.Bool.{Bool, true, false, cond, not, _&&_, _||_}
+use mathlib.Core.Bool.{Bool, true, false, cond, not, _&&_, _||_, and-false}
 use mathlib.Core.Logic.{⊎-elim}
 use native.Mathlib.Omega.{arith}
 use native.Mathlib.Nat.{eq-or-lt-of-le}
@@ -16,13 +16,9 @@ use Rattle.text.specs.declared.Number.the-variants.{Is, No}
 use Rattle.text.specs.Lists.{allOf, isNil}
 use Rattle.text.specs.Bytes.{isDigit}
 use Rattle.text.specs.Decimal.{valueFrom, isDecimal, decimalOf, width, fiveDigits, digits}
-use Rattle.text.proofs.Basics.{and-l, and-r, and-in, and-false, no-case}
-use Rattle.text.proofs.Classes.{within-low, within-high, inside}
+use Rattle.text.proofs.Basics.{and-l, and-r, and-in, no-case}
+use Rattle.text.proofs.Classes.{digit-bounds, inside}
 use Rattle.text.proofs.Scans.{drop-step}
-
--- what a digit counts
-pub digit-most : (b : ℕ) → isDigit b ≡ true → (48 ≤ b) × (b ≤ 57)
-digit-most b e = (within-low 48 57 b e, within-high 48 57 b e)
 
 -- a value that more digits follow does not get less
 pub value-grows : (n : ℕ) (s : List ℕ) → n ≤ valueFrom n s
@@ -224,8 +220,8 @@ as-long n m [] [] l p q e = (e, refl)
 as-long n m [] (c ∷ t) l p q e = absurd (omega arith)
 as-long n m (b ∷ s) [] l p q e = absurd (omega arith)
 as-long n m (b ∷ s) (c ∷ t) l p q e =
-    let x = digit-most b (and-l (isDigit b) (allOf isDigit s) p) in
-    let y = digit-most c (and-l (isDigit c) (allOf isDigit t) q) in
+    let x = digit-bounds b (and-l (isDigit b) (allOf isDigit s) p) in
+    let y = digit-bounds c (and-l (isDigit c) (allOf isDigit t) q) in
     let ih = as-long (n * 10 + (b - 48)) (m * 10 + (c - 48)) s t (omega arith) (and-r (isDigit b) (allOf isDigit s) p) (and-r (isDigit c) (allOf isDigit t) q) e in
     let k = ih .0 in
     let d : b ≡ c = omega arith in
@@ -246,7 +242,7 @@ not-longer most s [] p q l e = omega arith
 not-longer most [] (c ∷ t) p q l e = no-case (decimal-made most [] p .some)
 not-longer most (b ∷ s) (c ∷ t) p q l e =
     let d = decimal-made most (c ∷ t) q in
-    let w = digit-most c (and-l (isDigit c) (allOf isDigit t) (unfold allOf in d .all)) in
+    let w = digit-bounds c (and-l (isDigit c) (allOf isDigit t) (unfold allOf in d .all)) in
     let z : c ≡ 48 → ⊥ = λ z. let o = d .first z in omega arith in
     longer (b ∷ s) t (0 * 10 + (c - 48)) (omega arith) (omega arith) (decimal-made most (b ∷ s) p .all)
     (and-r (isDigit c) (allOf isDigit t) (unfold allOf in d .all)) (unfold valueFrom in e)

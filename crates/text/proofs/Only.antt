@@ -45,6 +45,9 @@ use Rattle.text.proofs.copy.Reads as copy-reads
 use Rattle.text.proofs.put_two as put-two-fn
 use Rattle.text.proofs.put_two.Kinds as put-two-kinds
 use Rattle.text.proofs.put_two.Reads as put-two-reads
+use Rattle.text.proofs.width as width-fn
+use Rattle.text.proofs.width.Kinds as width-kinds
+use Rattle.text.proofs.width.Reads as width-reads
 use Rattle.text.proofs.put_decimal as put-decimal-fn
 use Rattle.text.proofs.put_decimal.Kinds as put-decimal-kinds
 use Rattle.text.proofs.put_decimal.Reads as put-decimal-reads
@@ -152,6 +155,14 @@ pub put-two-only :
     → put-two-reads.Post κs a r s → put-two-reads.Post κs a r′ s′
     → now (s .0) ≡ now (s′ .0)
 put-two-only κs a r r′ s s′ p q = p ∙ sym q
+
+pub width-only :
+    (κs : Lifetimes.Lfts 0) (a : World.ArgsD width-fn.signature κs)
+    (r r′ : World.ResD width-fn.signature κs)
+    (s s′ : Clauses.AtExit (Kinds.endedOf 0 width-kinds.ps width-kinds.r) κs)
+    → width-reads.Post κs a r s → width-reads.Post κs a r′ s′
+    → r ≡ r′
+width-only κs a r r′ s s′ p q = p ∙ sym q
 
 pub put-decimal-only :
     (κs : Lifetimes.Lfts 1) (a : World.ArgsD put-decimal-fn.signature κs)

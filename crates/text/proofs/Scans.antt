@@ -2,8 +2,8 @@
 -- Assumes nothing.
 use Prim.Native.Nat.{ℕ, suc, zero, _+_, _-_, _<_, _≤_}
 use mathlib.Core.Path.{_≡_, refl, sym, ap, _∙_}
-use mathlib.Core.List.{List, [], _∷_}
-use mathlib.Core.Bool.{Bool, true, false, cond, _&&_, _||_}
+use mathlib.Core.List.{List, [], _∷_, _++_}
+use mathlib.Core.Bool.{Bool, true, false, cond, _&&_, and-false}
 use native.Mathlib.Numerals.{add-one}
 use native.Mathlib.Omega.{arith}
 use lib.ListN.{length, getD, take, drop, drop-of-length-le}
@@ -12,7 +12,7 @@ use lib.Dec.{eqb}
 use borrow.Author.Tests.{eq-eqb, ne-eqb}
 use Rattle.text.specs.Lists.{allOf, anyOf, runLen, walk}
 use Rattle.text.specs.Bytes.{sameBytes}
-use Rattle.text.proofs.Basics.{and-l, and-r, and-false}
+use Rattle.text.proofs.Basics.{and-l, and-r}
 
 -- a list from a place on, for any default
 pub step-of : {A : Type 0} (l : List A) (i : ℕ) (d : A) → i < length l → drop i l ≡ getD l i d ∷ drop (i + 1) l
@@ -72,6 +72,30 @@ module _ {A : Type 0} (f : A → Bool) where
       go : (t : Bool) → f x ≡ t → allOf f (take (runLen f s) s) ≡ true → allOf f (take (cond t (suc (runLen f s)) 0) (x ∷ s)) ≡ true
       go true p ih = simp (p, ih)
       go false p ih = refl
+
+  -- a run that ends before its list does ends at one that fails the test; d is any default
+  pub run-fails : (s : List A) (d : A) → runLen f s < length s → f (getD s (runLen f s) d) ≡ false
+  unfolding runLen
+  run-fails [] d h = absurd (omega arith)
+  run-fails (x ∷ s) d h = go (f x) refl h (run-fails s d)
+    where
+      go : (t : Bool) → f x ≡ t → cond t (suc (runLen f s)) 0 < suc (length s) → (runLen f s < length s → f (getD s (runLen f s) d) ≡ false)
+          → f (getD (x ∷ s) (cond t (suc (runLen f s)) 0) d) ≡ false
+      go true p k ih = ih (omega arith)
+      go false p k ih = p
+
+  -- what a test finds in a whole list holds at each place
+  pub all-at : (l : List A) (d : A) → allOf f l ≡ true → (i : ℕ) → i < length l → f (getD l i d) ≡ true
+  unfolding allOf
+  all-at [] d e i h = absurd (omega arith)
+  all-at (x ∷ l) d e zero h = and-l (f x) (allOf f l) e
+  all-at (x ∷ l) d e (suc i) h = all-at l d (and-r (f x) (allOf f l) e) i (omega arith)
+
+-- an automaton goes on after a list as from the state that it leaves
+pub walk-over : {S A : Type 0} (f : S → A → S) (v : S) (a r : List A) → walk f v (a ++ r) ≡ walk f (walk f v a) r
+unfolding walk
+walk-over f v [] r = refl
+walk-over f v (x ∷ a) r = walk-over f (f v x) a r
 
 -- any automaton: w is its state after the byte at i
 module _ {S : Type 0} (f : S → ℕ → S) (l : List ℕ) (i : ℕ) (v : S) where

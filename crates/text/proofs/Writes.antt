@@ -41,13 +41,17 @@ module _ {A : Type 0} where
   pub sets-room : (l : List A) (i : ℕ) (xs : List A) → sets l i xs ≡ sets l i (take (length l - i) xs)
   sets-room l i xs = sym (sets-cut xs l i (length l - i) (omega arith))
 
+  -- what is left to write, where b holds t from the place `at` on
+  pub sets-rest : (o t b : List A) (at w : ℕ) → b ≡ sets o at t → w ≡ at + length t → (s : List A) → sets b w s ≡ sets o at (t ++ s)
+  sets-rest o t b at w held place s = rw (held, place) (sets-append t s o at)
+
   -- a writer's next step: b holds t from the place `at` on, b′ more
   module _ (o t b b′ : List A) (at w : ℕ) (held : b ≡ sets o at t) (place : w ≡ at + length t) where
     pub then-sets : (s : List A) → b′ ≡ sets b w s → b′ ≡ sets o at (t ++ s)
-    then-sets s e = e ∙ rw (held, place) (sets-append t s o at)
+    then-sets s e = e ∙ sets-rest o t b at w held place s
 
     pub then-set : (x : A) → b′ ≡ set b w x → b′ ≡ sets o at (t ++ (x ∷ []))
-    then-set x e = e ∙ rw (held, place) (sets-append t (x ∷ []) o at)
+    then-set x e = then-sets (x ∷ []) e
 
   -- one more of a copy
   pub copy-more : (s l : List A) (at i : ℕ) (d : A) → i < length s → set (sets l at (take i s)) (at + i) (getD s i d) ≡ sets l at (take (i + 1) s)
@@ -68,9 +72,6 @@ pub held-is : (room held s : List ℕ) (n : ℕ) → held ≡ sets room 0 s → 
 held-is room held s n e p h = ap (take n) (e ∙ sets-fill room s h) ∙ (unfold wrote in take-at s (drop (length s) room) n (sym p))
 
 -- the room is as long as it was
-pub sets-length : (l : List ℕ) (i : ℕ) (xs : List ℕ) → length (sets l i xs) ≡ length l
-sets-length l i xs = length-sets l i xs
-
 pub length-wrote : (room t : List ℕ) → length t ≤ length room → length (wrote room t) ≡ length room
 length-wrote room t h = ap length (sym (sets-fill room t h)) ∙ length-sets room 0 t
 

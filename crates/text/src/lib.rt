@@ -219,7 +219,8 @@ pub fn put_two(out: &mut [u8], at: usize, n: u16)
     copy(out, at, &t);
 }
 
-fn width(n: usize) -> usize
+// How many digits a number has in decimal.
+pub fn width(n: u16) -> usize
     ensures { λ r. ⌜ r ≡ width n ⌝ }
 {
     if n < 10 {
@@ -255,7 +256,7 @@ pub fn put_decimal(out: &mut [u8], at: usize, n: u16) -> usize
         digit(x / 10),
         digit(x),
     ];
-    let w = width(x);
+    let w = width(n);
     let from = 5 - w;
     copy(out, at, &d[from..]);
     w

@@ -6,7 +6,6 @@ ghost use mathlib.Core.Bool.{cond};
 ghost use lib.ListN.{length, set};
 ghost use lib.Seq.{sets};
 ghost use Rattle.text.specs.Lists.{allOf};
-ghost use Rattle.text.specs.Decimal.{width};
 ghost use Rattle.tree.specs.Tree.{isZero, tagLenIn, sameNode, twin, badRecord, checkTree, records, recordAt, parent, number};
 ghost use Rattle.tree.specs.Resolve.{taggedUnder, namedUnder, inTree, resolvedBy, listBy, resolveOf, resolveList, session′, nodes};
 ghost use Rattle.tree.specs.Steps.{taggedIn, namedIn, firstOf, kept, verdictOf, alongFrom, starred, foundAt, Within};
@@ -144,25 +143,6 @@ fn be16(high: u8, low: u8) -> u16
     256 * (high as u16) + (low as u16)
 }
 
-// How many digits a number of two bytes has.
-fn width(n: u16) -> usize
-    ensures { λ r. ⌜ (r ≡ width n) × (r ≤ 5) ⌝ }
-{
-    if n < 10 {
-        return 1;
-    }
-    if n < 100 {
-        return 2;
-    }
-    if n < 1000 {
-        return 3;
-    }
-    if n < 10000 {
-        return 4;
-    }
-    5
-}
-
 // The parent of a node: a lower one.
 fn parent(t: &[u8], k: usize) -> usize
     requires { ⌜ (checkTree (now t) ≡ Checked.Good) × (1 ≤ k) × (k ≤ records (now t)) ⌝ }
@@ -196,7 +176,7 @@ fn segment_len(t: &[u8], k: usize) -> usize
     ensures { λ r. ⌜ (r ≡ 1 + length (segment (now (t .entry)) k)) × (r ≤ 22) ⌝ }
 {
     let n = tag_len(t, k);
-    1 + n + width(number(t, k))
+    1 + n + text::width(number(t, k))
 }
 
 // A separator and a node's segment at a place of the room; tells the place after them.

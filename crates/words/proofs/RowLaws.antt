@@ -2,7 +2,7 @@
 use Prim.Native.Nat.{ℕ, zero, suc, _+_, _-_, _<_, _≤_}
 use mathlib.Core.Path.{_≡_, refl, sym, ap, _∙_}
 use mathlib.Core.List.{List, [], _∷_, map}
-use mathlib.Core.Bool.{Bool, true, false, cond, not, _&&_}
+use mathlib.Core.Bool.{Bool, true, false, cond, not, _&&_, and-false, and-true}
 use mathlib.Core.Option.{Option, none, some}
 use native.Mathlib.Omega.{arith}
 use lib.ListN.{length, getD, take, drop, List·getD-map, List·getD-eq-default, length-drop, drop-of-length-le}
@@ -11,20 +11,13 @@ use lib.Dec.{eqb, leb}
 use borrow.Author.Tests.{eq-eqb, ne-eqb, eqb-true, eqb-false, leb-true}
 use Rattle.text.specs.Bytes.{bytes, sameBytes}
 use Rattle.text.specs.Lists.{isNil, allOf}
-use Rattle.text.proofs.Basics.{and-l, and-r, and-false, no-case, either}
-use Rattle.text.proofs.Scans.{step-of, same-length}
+use Rattle.text.proofs.Basics.{and-l, and-r, no-case, either}
+use Rattle.text.proofs.Scans.{step-of, same-length, all-at, getD-within}
 use Rattle.words.specs.declared.Kind.the-variants.{Mere}
 use Rattle.words.specs.declared.Known.the-variants.{Is, Unknown}
 use Rattle.words.specs.Tables.{known}
 use Rattle.words.specs.Words.{verbNames, longNames, shortNames, names, find, or, verbOf, optionOf, kinds, kindOf, verbName, optionName, bodies, bodyOf}
 use Rattle.words.specs.Rows.{verbRows, rowsFor, optionRows, kindAt, rowName, rowKind, rowNames, findRow, findOf, bodyBytes, bodyAt}
-
--- a rule that a test finds in a whole list holds at each place
-pub all-at : {A : Type 0} (f : A → Bool) (l : List A) (d : A) → allOf f l ≡ true → (i : ℕ) → i < length l → f (getD l i d) ≡ true
-unfolding allOf
-all-at f [] d e i h = absurd (omega arith)
-all-at f (x ∷ l) d e zero h = and-l (f x) (allOf f l) e
-all-at f (x ∷ l) d e (suc i) h = all-at f l d (and-r (f x) (allOf f l) e) i (omega arith)
 
 -- a test passed by each number below n
 unfoldable pub below : (ℕ → Bool) → ℕ → Bool
@@ -37,12 +30,6 @@ below-at f zero e i h = absurd (omega arith)
 below-at f (suc n) e i h =
     either (eqb i n) (λ t. ap f (eqb-true i n t) ∙ and-l (f n) (below f n) e)
     (λ t. let d = eqb-false i n t in below-at f n (and-r (f n) (below f n) e) i (omega (arith, d)))
-
--- the default of a place within a list does not matter
-pub getD-within : {A : Type 0} (l : List A) (i : ℕ) (d e : A) → i < length l → getD l i d ≡ getD l i e
-getD-within [] i d e h = absurd (omega arith)
-getD-within (x ∷ l) zero d e h = refl
-getD-within (x ∷ l) (suc i) d e h = getD-within l i d e (omega arith)
 
 -- ---- names
 
@@ -99,10 +86,6 @@ pub row-short : (row t : List ℕ) → length t ≡ 1 → (getD row 12 0 ≡ 0 �
 unfolding rowNames names sameBytes
 row-short row [] e h = absurd (omega arith)
 row-short row (b ∷ []) e h = simp (ne-eqb (getD row 12 0) 0 h) (and-true (eqb b (getD row 12 0)))
-  where
-    and-true : (a : Bool) → a && true ≡ a
-    and-true true = refl
-    and-true false = refl
 row-short row (b ∷ c ∷ t) e h = absurd (omega arith)
 
 pub row-no-short : (row t : List ℕ) → length t ≡ 1 → getD row 12 0 ≡ 0 → rowNames row t ≡ false
@@ -218,22 +201,9 @@ kind-rest (suc (suc (suc (suc (suc n))))) a b c d = refl
 
 -- ---- names by number
 
--- what a table of rows with names says: each row can be read, and the names are those
-nameFits : List ℕ → Bool
-nameFits row = leb (suc (getD row 0 0)) (length row) && leb (length row) 16
-
-module _ (rows ns : List (List ℕ)) (fit : allOf nameFits rows ≡ true) (right : map rowName rows ≡ ns) where
-  table-name : (i : ℕ) → rowName (getD rows i []) ≡ getD ns i []
-  table-name i = sym (List·getD-map rowName rows i []) ∙ ap (λ l. getD l i []) right
-
-  table-fits : (i : ℕ) → i < length rows → (getD (getD rows i []) 0 0 < length (getD rows i [])) × (length (getD rows i []) ≤ 16)
-  unfolding nameFits
-  table-fits i h =
-      let row = getD rows i [] in
-      let t = all-at nameFits rows [] fit i h in (
-        leb-true (suc (getD row 0 0)) (length row) (and-l (leb (suc (getD row 0 0)) (length row)) (leb (length row) 16) t),
-        leb-true (length row) 16 (and-r (leb (suc (getD row 0 0)) (length row)) (leb (length row) 16) t),
-      )
+-- the name in a row of a table whose names are those
+table-name : (rows ns : List (List ℕ)) → map rowName rows ≡ ns → (i : ℕ) → rowName (getD rows i []) ≡ getD ns i []
+table-name rows ns right i = sym (List·getD-map rowName rows i []) ∙ ap (λ l. getD l i []) right
 
 -- a row's first byte is how long its name is
 pub row-length : (row : List ℕ) → getD row 0 0 < length row → getD row 0 0 ≡ length (rowName row)
@@ -242,6 +212,10 @@ row-length row h = sym (length-take-le (getD row 0 0) (drop 1 row) (omega (arith
 verbs-many : length verbRows ≡ 13
 unfolding verbRows verbNames bytes
 verbs-many = refl
+
+-- a row of the verbs can be read
+nameFits : List ℕ → Bool
+nameFits row = leb (suc (getD row 0 0)) (length row) && leb (length row) 16
 
 verbs-fit : allOf nameFits verbRows ≡ true
 unfolding allOf nameFits verbRows verbNames bytes
@@ -252,12 +226,18 @@ unfolding verbRows verbNames bytes
 verbs-right = refl
 
 pub verb-fits : (i : ℕ) → i < 13 → (getD (getD verbRows i []) 0 0 < length (getD verbRows i [])) × (length (getD verbRows i []) ≤ 16)
-verb-fits i h = table-fits verbRows verbNames verbs-fit verbs-right i (omega (arith, verbs-many))
+unfolding nameFits
+verb-fits i h =
+    let row = getD verbRows i [] in
+    let t = all-at nameFits verbRows [] verbs-fit i (omega (arith, verbs-many)) in (
+      leb-true (suc (getD row 0 0)) (length row) (and-l (leb (suc (getD row 0 0)) (length row)) (leb (length row) 16) t),
+      leb-true (length row) 16 (and-r (leb (suc (getD row 0 0)) (length row)) (leb (length row) 16) t),
+    )
 
 pub verb-name : (n : ℕ) → (n ≡ 0 → ⊥) → rowName (getD verbRows (n - 1) []) ≡ verbName n
 unfolding verbName
 verb-name zero h = absurd (h refl)
-verb-name (suc i) h = let e : suc i - 1 ≡ i = omega arith in ap (λ k. rowName (getD verbRows k [])) e ∙ table-name verbRows verbNames verbs-fit verbs-right i
+verb-name (suc i) h = let e : suc i - 1 ≡ i = omega arith in ap (λ k. rowName (getD verbRows k [])) e ∙ table-name verbRows verbNames verbs-right i
 
 pub verb-none : verbName 0 ≡ []
 unfolding verbName
@@ -267,21 +247,17 @@ pub verb-out : (n : ℕ) → 13 < n → verbName n ≡ []
 unfolding verbName verbNames
 verb-out n h = List·getD-eq-default ([] ∷ verbNames) [] h
 
-options-fit : allOf nameFits optionRows ≡ true
-unfolding allOf nameFits optionRows rowsFor longNames shortNames kinds bytes
-options-fit = refl
-
 pub options-right : map rowName optionRows ≡ longNames
 unfolding optionRows rowsFor longNames shortNames kinds bytes
 options-right = refl
 
 pub option-fits : (i : ℕ) → i < 12 → (getD (getD optionRows i []) 0 0 < length (getD optionRows i [])) × (length (getD optionRows i []) ≤ 16)
-option-fits i h = table-fits optionRows longNames options-fit options-right i (omega (arith, rows-many))
+option-fits i h = let r = row-fits i h in (omega (arith, r .0, r .2), omega (arith, r .0))
 
 pub option-name : (n : ℕ) → (n ≡ 0 → ⊥) → rowName (getD optionRows (n - 1) []) ≡ optionName n
 unfolding optionName
 option-name zero h = absurd (h refl)
-option-name (suc i) h = let e : suc i - 1 ≡ i = omega arith in ap (λ k. rowName (getD optionRows k [])) e ∙ table-name optionRows longNames options-fit options-right i
+option-name (suc i) h = let e : suc i - 1 ≡ i = omega arith in ap (λ k. rowName (getD optionRows k [])) e ∙ table-name optionRows longNames options-right i
 
 pub option-none : optionName 0 ≡ []
 unfolding optionName

@@ -8,16 +8,17 @@ use mathlib.Core.Logic.{_⊎_, inl, inr, ⊎-elim}
 use native.Mathlib.Omega.{arith}
 use lib.ListN.{length, getD}
 use lib.Dec.{eqb, leb}
-use borrow.Author.Tests.{ne-eqb, eqb-true, leb-true, leb-false}
+use borrow.Author.Tests.{ne-eqb, eqb-true, leb-true, leb-false, not-true}
 use Rattle.text.specs.Bytes.{bytes, sameBytes, oneOf, isWord}
 use Rattle.text.specs.Lists.{isNil, allOf}
-use Rattle.text.proofs.Basics.{and-l, and-r, and-in, neg, neg-in, no-case, none-some, same-some, same-eq, same-refl, either, or-case}
+use Rattle.text.proofs.Basics.{and-l, and-r, and-in, neg-in, no-case, none-some, same-some, same-eq, same-refl, either, or-case}
 use Rattle.words.specs.declared.Kind.{Kind}
 use Rattle.words.specs.declared.Kind.the-variants.{Mere, Keep, Level, Place, Entries}
 use Rattle.words.specs.Words.{verbNames, longNames, shortNames, names, find, or, verbOf, optionOf, verbName, optionName, kinds, kindOf}
 use Rattle.words.specs.Rows.{verbRows, rowName}
 use Rattle.words.specs.Names.{shortName, isLower, takesArgument, isMere}
-use Rattle.words.proofs.RowLaws.{all-at, below, below-at, options-long, verb-name, option-none, option-out, kind-out}
+use Rattle.words.proofs.RowLaws.{below, below-at, options-long, verb-name, option-none, option-out, kind-out}
+use Rattle.text.proofs.Scans.{all-at}
 
 -- ---- a search among names
 
@@ -43,7 +44,7 @@ find-again k [] d i h = no-case h
 find-again k (n ∷ ns) d zero h = let e : k + 0 ≡ k = omega arith in rw (names-self n h) (ap some (sym e))
 find-again k (n ∷ ns) d (suc i) h =
     let e : k + suc i ≡ suc k + i = omega arith in
-    let o = neg (names n (getD ns i [])) (all-at (λ m. not (names n m)) ns [] (and-l (allOf (λ m. not (names n m)) ns) (distinct ns) d) i (there ns i h)) in
+    let o = not-true (names n (getD ns i [])) (all-at (λ m. not (names n m)) ns [] (and-l (allOf (λ m. not (names n m)) ns) (distinct ns) d) i (there ns i h)) in
     rw o (find-again (suc k) ns (and-r (allOf (λ m. not (names n m)) ns) (distinct ns) d) i h ∙ ap some (sym e))
 
 -- what is found is the name at its place, which is not empty
@@ -57,7 +58,7 @@ find-name k (n ∷ ns) s j e =
     let q = same-some k j (rw t at e) in
     let z : j - k ≡ 0 = omega arith in
     let p = same-eq s n (and-r (not (isNil n)) (sameBytes s n) t) in
-    (omega arith, omega arith, rw z p, ap isNil p ∙ neg (isNil n) (and-l (not (isNil n)) (sameBytes s n) t)))
+    (omega arith, omega arith, rw z p, ap isNil p ∙ not-true (isNil n) (and-l (not (isNil n)) (sameBytes s n) t)))
     (λ t.
     let r = find-name (suc k) ns s j (rw t at e) in
     let z : j - k ≡ suc (j - suc k) = omega (arith, r .0) in
@@ -73,7 +74,7 @@ unfolding shape
 shape-says most n e =
     let a = and-r (not (isNil n)) (allOf isLower n && (allOf isWord n && leb (length n) most)) e in
     let b = and-r (allOf isLower n) (allOf isWord n && leb (length n) most) a in (
-      neg (isNil n) (and-l (not (isNil n)) (allOf isLower n && (allOf isWord n && leb (length n) most)) e),
+      not-true (isNil n) (and-l (not (isNil n)) (allOf isLower n && (allOf isWord n && leb (length n) most)) e),
       and-l (allOf isLower n) (allOf isWord n && leb (length n) most) a,
       and-l (allOf isWord n) (leb (length n) most) b,
       leb-true (length n) most (and-r (allOf isWord n) (leb (length n) most) b),
@@ -249,7 +250,7 @@ alike a b = cond a b (not b)
 alike-eq : (a b : Bool) → alike a b ≡ true → a ≡ b
 unfolding alike
 alike-eq true b e = sym e
-alike-eq false b e = sym (neg b e)
+alike-eq false b e = sym (not-true b e)
 
 kinds-right : below (λ k. alike (isMere (kindOf k)) (not (takesArgument k))) 13 ≡ true
 unfolding below alike kindOf kinds takesArgument oneOf
@@ -283,4 +284,4 @@ kind-mere k e = mere (kindOf k) (kind-takes k ∙ ap not e)
     mere Entries e = no-case (sym e)
 
 pub mere-takes : (k : ℕ) → kindOf k ≡ Mere → takesArgument k ≡ false
-mere-takes k e = neg (takesArgument k) (sym (kind-takes k) ∙ ap isMere e)
+mere-takes k e = not-true (takesArgument k) (sym (kind-takes k) ∙ ap isMere e)

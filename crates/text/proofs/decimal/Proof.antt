@@ -5,7 +5,8 @@ use native.Mathlib.Omega.{arith}
 use borrow.Author.Tests.{not-true, not-false}
 use lib.ListN.{length, drop, getD}
 use Rattle.text.specs.Decimal.{decimalOf}
-use Rattle.text.proofs.Decimals.{digit-most, readOn, read-on, read-no, read-past, read-large, no-digits, zero-alone, zero-leads, first-digit}
+use Rattle.text.proofs.Classes.{digit-bounds}
+use Rattle.text.proofs.Decimals.{readOn, read-on, read-no, read-past, read-large, no-digits, zero-alone, zero-leads, first-digit}
 use borrow.Author.Needs.{needs}
 use Rattle.text.proofs.decimal.Statement.{statement}
 use Rattle.text.proofs.decimal.Tie as tie
@@ -59,7 +60,7 @@ add-v c =
     let l = c .before .before .before .before .before .loop in
     let a = c .before .before .before .before .before .before .before .before .before .before .args in
     let t = c .before .before .is-digit in
-    omega (arith, c .digit-value .ensures, digit-most (getD (a .s .now) (l .i) 0) (sym (t .ensures) ∙ not-false (t .result) (c .before .if4 .left)))
+    omega (arith, c .digit-value .ensures, digit-bounds (getD (a .s .now) (l .i) 0) (sym (t .ensures) ∙ not-false (t .result) (c .before .if4 .left)))
 
 returns-5 : tie.Need-returns-5 Inv-loop μ-loop
 returns-5 c =
