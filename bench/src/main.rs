@@ -9,13 +9,13 @@ mod work;
 
 use clp_gen::Rng;
 use std::process::{Command, Stdio};
-use timing::{seconds_of, Row};
+use timing::{seconds_of_both, Row};
 
 const MEGA: usize = 1 << 20;
 
 fn main() {
     let mut rng = Rng::new(1);
-    println!("best of several runs, proved beside Rust; the buffers are warm and not cleared between runs");
+    println!("best of several runs, proved and Rust in turns; the buffers are warm and not cleared between runs");
     Row::heading();
     for size in [1 << 10, 1 << 16, MEGA, 16 * MEGA, 100 * MEGA] {
         let capture = input::console(&mut rng, size);
@@ -43,13 +43,11 @@ fn main() {
             let file = std::env::temp_dir().join("clp_bench_capture");
             std::fs::write(&file, &capture).expect("room for the capture");
             let run = |program: &str| {
-                seconds_of(3, || {
-                    let stdin = std::fs::File::open(&file).expect("the capture");
-                    let status = Command::new(program).stdin(stdin).stdout(Stdio::null()).status();
-                    assert!(status.expect("the program runs").success());
-                })
+                let stdin = std::fs::File::open(&file).expect("the capture");
+                let status = Command::new(program).stdin(stdin).stdout(Stdio::null()).status();
+                assert!(status.expect("the program runs").success());
             };
-            Row::new("clplist", size, "B", (run(ours), run(theirs))).show();
+            Row::new("clplist", size, "B", seconds_of_both(|| run(ours), || run(theirs))).show();
             std::fs::remove_file(&file).expect("the capture is there");
         }
     }

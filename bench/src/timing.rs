@@ -2,11 +2,25 @@
 
 use std::time::Instant;
 
-/// The best of several runs, each over at least a few milliseconds of work.
-pub fn seconds_of(runs: usize, mut work: impl FnMut()) -> f64 {
-    let once = time(&mut work, 1);
-    let turns = ((0.01 / once.max(1e-9)) as usize).clamp(1, 1_000_000);
-    (0..runs).map(|_| time(&mut work, turns) / turns as f64).fold(f64::MAX, f64::min)
+/// Most runs of a pair, the time after which no more are begun, and the least of a run's length.
+const MOST_RUNS: usize = 25;
+const LONG_ENOUGH: f64 = 4.0;
+const SHORTEST_RUN: f64 = 0.005;
+
+/// Seconds of the two for the same work: the best of several runs each. They take turns, so that another program on the machine slows both.
+pub fn seconds_of_both(mut ours: impl FnMut(), mut theirs: impl FnMut()) -> (f64, f64) {
+    let once = time(&mut ours, 1).min(time(&mut theirs, 1));
+    let turns = ((SHORTEST_RUN / once.max(1e-9)) as usize).clamp(1, 1_000_000);
+    let began = Instant::now();
+    let mut best = (f64::MAX, f64::MAX);
+    for run in 0..MOST_RUNS {
+        best.0 = best.0.min(time(&mut ours, turns) / turns as f64);
+        best.1 = best.1.min(time(&mut theirs, turns) / turns as f64);
+        if run >= 2 && began.elapsed().as_secs_f64() > LONG_ENOUGH {
+            break;
+        }
+    }
+    best
 }
 
 fn time(work: &mut impl FnMut(), turns: usize) -> f64 {

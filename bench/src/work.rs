@@ -1,41 +1,40 @@
 //! The two libraries at the same work: seconds of the proved one, seconds of the Rust one.
 
 use crate::same_way::{first_bad, node_at};
-use crate::timing::seconds_of;
+use crate::timing::seconds_of_both;
 use clp_face as face;
 use clp_reader::{canonical, joiner, reading, tree};
 use std::hint::black_box;
 
-const RUNS: usize = 5;
 const PART: usize = 1 << 16;
 
 pub fn joins(capture: &[u8]) -> (f64, f64) {
-    let mut buffer = [0; 1024];
-    let ours = seconds_of(RUNS, || {
+    let (mut our_line, mut their_line) = ([0; 1024], [0; 1024]);
+    let ours = || {
         let mut state = 0;
         for part in capture.chunks(PART) {
             let mut at = 0;
             while at < part.len() {
-                let joined = face::join(state, &mut buffer, &part[at..]);
+                let joined = face::join(state, &mut our_line, &part[at..]);
                 state = joined.state;
                 at += joined.used as usize;
             }
         }
         keep(face::end(state));
-    });
-    let theirs = seconds_of(RUNS, || {
+    };
+    let theirs = || {
         let mut state = joiner::State::default();
         for part in capture.chunks(PART) {
             let mut at = 0;
             while at < part.len() {
-                let step = joiner::join(state, &mut buffer, &part[at..]);
+                let step = joiner::join(state, &mut their_line, &part[at..]);
                 state = step.state;
                 at += step.used;
             }
         }
         keep(joiner::end(state));
-    });
-    (ours, theirs)
+    };
+    seconds_of_both(ours, theirs)
 }
 
 /// An answer is not computed away.
@@ -45,10 +44,11 @@ fn keep<T>(answer: T) {
 
 /// Each line by both.
 fn each(lines: &[Vec<u8>], ours: impl Fn(&[u8], &mut [u8]), theirs: impl Fn(&[u8], &mut [u8])) -> (f64, f64) {
-    let mut room = [0; 8192];
-    let first = seconds_of(RUNS, || lines.iter().for_each(|line| ours(black_box(line), &mut room)));
-    let second = seconds_of(RUNS, || lines.iter().for_each(|line| theirs(black_box(line), &mut room)));
-    (first, second)
+    let (mut our_room, mut their_room) = ([0; 8192], [0; 8192]);
+    seconds_of_both(
+        || lines.iter().for_each(|line| ours(black_box(line), &mut our_room)),
+        || lines.iter().for_each(|line| theirs(black_box(line), &mut their_room)),
+    )
 }
 
 pub fn reads(lines: &[Vec<u8>]) -> (f64, f64) {
@@ -64,29 +64,27 @@ pub fn writes(lines: &[Vec<u8>]) -> (f64, f64) {
 }
 
 pub fn checks(bytes: &[u8]) -> (f64, f64) {
-    let ours = seconds_of(RUNS, || keep(face::check_tree(black_box(bytes))));
-    let theirs = seconds_of(RUNS, || keep(tree::check_tree(black_box(bytes))));
-    (ours, theirs)
+    seconds_of_both(|| keep(face::check_tree(black_box(bytes))), || keep(tree::check_tree(black_box(bytes))))
 }
 
 pub fn resolves(bytes: &[u8], path: &[u8]) -> (f64, f64) {
-    let mut list = [0; 512];
-    let ours = seconds_of(RUNS, || keep(face::resolve(black_box(path), bytes, 0, &mut list)));
-    let theirs = seconds_of(RUNS, || keep(tree::resolve(black_box(path), bytes, 0, &mut list)));
-    (ours, theirs)
+    let (mut our_list, mut their_list) = ([0; 512], [0; 512]);
+    seconds_of_both(
+        || keep(face::resolve(black_box(path), bytes, 0, &mut our_list)),
+        || keep(tree::resolve(black_box(path), bytes, 0, &mut their_list)),
+    )
 }
 
 pub fn checks_same_way(bytes: &[u8]) -> (f64, f64) {
     assert_eq!((first_bad(bytes), face::check_tree(bytes).number), (None, 0));
-    let ours = seconds_of(RUNS, || keep(face::check_tree(black_box(bytes))));
-    let theirs = seconds_of(RUNS, || keep(first_bad(black_box(bytes))));
-    (ours, theirs)
+    seconds_of_both(|| keep(face::check_tree(black_box(bytes))), || keep(first_bad(black_box(bytes))))
 }
 
 pub fn resolves_same_way(bytes: &[u8], path: &[u8]) -> (f64, f64) {
     let mut list = [0; 512];
     assert_eq!((face::resolve(path, bytes, 0, &mut list).value, node_at(path, bytes)), (1, Some(usize::from(list[0]))));
-    let ours = seconds_of(RUNS, || keep(face::resolve(black_box(path), bytes, 0, &mut list)));
-    let theirs = seconds_of(RUNS, || keep(node_at(black_box(path), bytes)));
-    (ours, theirs)
+    seconds_of_both(
+        || keep(face::resolve(black_box(path), bytes, 0, &mut list)),
+        || keep(node_at(black_box(path), bytes)),
+    )
 }
