@@ -1,5 +1,6 @@
 pub mod ByteCases
 pub mod TermLaws
+pub mod CountLaws
 pub mod ScanLaws
 pub mod Paper
 pub mod RowLaws

@@ -2,7 +2,7 @@
 use Prim.Native.Nat.{ℕ, zero, suc, _+_, _-_, _<_, _≤_}
 use mathlib.Core.Path.{_≡_, refl, sym, ap, _∙_, subst}
 use mathlib.Core.List.{List, [], _∷_, _++_}
-use mathlib.Core.Bool.{Bool, true, false, cond, not, _&&_}
+use mathlib.Core.Bool.{Bool, true, false, cond}
 use native.Mathlib.Omega.{arith}
 use native.Mathlib.Decide.{decLt}
 use native.Mathlib.Nat.{add-zero}
@@ -19,11 +19,11 @@ use Rattle.text.proofs.Scans.{run-within, run-all, all-run, run-fails, walk-ove
 use Rattle.terms.specs.declared.Mode.{Mode}
 use Rattle.terms.specs.declared.Mode.the-variants.{Out, OutGrave, In, InGrave}
 use Rattle.terms.specs.Signs.{Sign, twelve, two, after, gives, atEnd, signs, raw, raws}
-use Rattle.terms.specs.Terms.{isGap, Term, termsFrom, termsOf}
+use Rattle.terms.specs.Terms.{Term, termsOf}
 use Rattle.terms.specs.Rows.{orElse, longFlaw, oddFlaw, endMode, opens, openedAt, endFlaw, openFlaw, manyFrom, manyFlaw, lexicalOf}
 use Rattle.terms.specs.RowWords.{lineSigns, isLone, endsLone, turns, endsOpen, marked, lastMark, startOf, Row1, Row2, Row3, Row4, Row5, NoRow}
 use Rattle.terms.proofs.Paper.{twelve-grave, two-grave, as-the-paper-says}
-use Rattle.terms.proofs.TermLaws.{pend, gives-width, signs-length}
+use Rattle.terms.proofs.TermLaws.{pend, gives-width}
 use Rattle.terms.proofs.ByteCases.{gives-case}
 
 -- ---- row 2: the first byte that fails a test stands where the run of those that pass ends
@@ -169,31 +169,10 @@ ends-well InGrave n q e f = no-case f
 
 -- ---- row 5: k terms came before
 
-many-few : (k : ℕ) (ts : List Term) → k + length ts ≤ 64 → manyFrom k ts ≡ Fine
+pub many-few : (k : ℕ) (ts : List Term) → k + length ts ≤ 64 → manyFrom k ts ≡ Fine
 unfolding manyFrom
 many-few k [] h = refl
 many-few k (t ∷ ts) h = rw (ne-eqb k 64 (λ z. omega arith)) (many-few (k + 1) ts (omega arith))
-
--- between two terms stands a gap: each but the last takes two signs at least
-terms-count : (i : ℕ) (g : Bool) (xs : List Sign) → length (termsFrom i g xs) + length (termsFrom i g xs) ≤ length xs + cond g 1 0
-unfolding termsFrom
-terms-count i g [] = omega arith
-terms-count i g (x ∷ xs) = go g (isGap x) _ _ (terms-count (i + length (raw x)) (isGap x) xs)
-  where
-    go : (h k : Bool) (t : Term) (ts : List Term) → length ts + length ts ≤ length xs + cond k 1 0
-        → length (cond (h && not k) (t ∷ ts) ts) + length (cond (h && not k) (t ∷ ts) ts) ≤ suc (length xs) + cond h 1 0
-    go true true t ts ih = omega arith
-    go true false t ts ih = omega arith
-    go false true t ts ih = omega arith
-    go false false t ts ih = omega arith
-
--- a line of fewer than 129 bytes has at most 64 terms
-pub many-short : (line : List ℕ) → length line < 129 → manyFlaw line ≡ Fine
-unfolding manyFlaw termsOf
-many-short line h =
-    let n = terms-count 0 true (signs Out line) in
-    let s = signs-length line in
-    many-few 0 (termsFrom 0 true (signs Out line)) (omega arith)
 
 many-over : (k : ℕ) (ts : List Term) → k ≤ 64 → 64 < k + length ts → manyFrom k ts ≡ Flawed 5 (startOf (64 - k) ts)
 unfolding manyFrom startOf

@@ -28,7 +28,7 @@ use Rattle.terms.proofs.ByteCases.{gives-case, out-case, grave-first}
 
 -- ---- what one byte gives
 
-gives-solid : (m : Mode) (b : ℕ) → gapByte m b ≡ false → anyOf isGap (gives m b) ≡ false
+pub gives-solid : (m : Mode) (b : ℕ) → gapByte m b ≡ false → anyOf isGap (gives m b) ≡ false
 unfolding anyOf oneOf twelve bytes
 gives-solid m b =
     gives-case (λ k g n. gapByte k b ≡ false → anyOf isGap g ≡ false) b (λ _ e. refl) (λ _ _ e. refl) (λ _ _ e. simp e) (λ _ e. refl)

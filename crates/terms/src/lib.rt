@@ -9,12 +9,12 @@ ghost use lib.ListN.{length, drop, set};
 ghost use lib.Seq.{sets};
 ghost use lib.Dec.{eqb};
 ghost use Rattle.text.specs.Bytes.{oneOf};
-ghost use Rattle.text.specs.Lists.{anyOf, runLen};
+ghost use Rattle.text.specs.Lists.{anyOf, runLen, parts};
 ghost use Rattle.text.specs.Room.{fitted, filled};
 ghost use Rattle.terms.specs.Signs.{twelve, two, after, gives, atEnd, stands, meant, isBare, hasBare};
 ghost use Rattle.terms.specs.Marks.{isMark, hasMark, startsBare};
 ghost use Rattle.terms.specs.Rows.{openFlaw, manyFlaw, lexicalOf};
-ghost use Rattle.terms.specs.Scan.{gapByte, termLen, startAt, termAt, ordinary};
+ghost use Rattle.terms.specs.Scan.{isSpace, gapByte, termLen, startAt, termAt, ordinary};
 
 // Where a scan stands: outside quotes or inside, and there directly after a GRAVE that nothing has escaped.
 pub enum Mode {
@@ -245,11 +245,36 @@ fn open_flaw(line: &[u8]) -> Verdict
     Verdict::Fine
 }
 
-// Row 5: whether there are over 64 terms; 65 of one byte, with 64 spaces between them, are 129 bytes.
+// How many spaces a byte is, and how many a text has, escaped and quoted ones too.
+fn one_space(b: u8) -> usize
+    ensures { λ r. ⌜ r ≡ cond (isSpace b) 1 0 ⌝ }
+{
+    if b == b' ' {
+        return 1;
+    }
+    0
+}
+
+fn spaces(s: &[u8]) -> usize
+    ensures { λ r. ⌜ r + 1 ≡ length (parts isSpace (now (s .entry))) ⌝ }
+{
+    let mut n: usize = 0;
+    let mut i: usize = 0;
+    while i < s.len() {
+        n += one_space(s[i]);
+        i += 1;
+    }
+    n
+}
+
+// Row 5: whether there are over 64 terms. 65 need 129 bytes and 64 spaces between them: hardly a line has both.
 fn many_flaw(line: &[u8]) -> Verdict
     ensures { λ r. ⌜ r ≡ manyFlaw (now (line .entry)) ⌝ }
 {
     if line.len() < 129 {
+        return Verdict::Fine;
+    }
+    if spaces(line) < 64 {
         return Verdict::Fine;
     }
     let mut at: usize = 0;

@@ -1,10 +1,12 @@
--- `terms::many_flaw` meets its contract. A line too short for 65 terms is fine. The loop's invariant: the answer for the terms from here on, with k before them, is the answer.
+-- `terms::many_flaw` meets its contract. A line with too few bytes or too few spaces for 65 terms is fine. The loop's invariant: the answer for the terms from here on, with k before them, is the answer.
 use borrow.Author.Needs.{needs}
-use Prim.Native.Nat.{_-_, _≤_}
+use Prim.Native.Nat.{ℕ, _-_, _≤_}
 use mathlib.Core.Path.{_≡_, refl, sym, ap, _∙_}
+use mathlib.Core.List.{List}
 use mathlib.Core.Bool.{true}
 use native.Mathlib.Omega.{arith}
 use lib.ListN.{length, drop}
+use Rattle.text.specs.declared.Verdict.the-variants.{Fine}
 use Rattle.terms.specs.declared.Mode.the-variants.{Out}
 use Rattle.terms.specs.declared.Found.the-variants.{Term}
 use Rattle.terms.specs.Signs.{signs}
@@ -12,12 +14,14 @@ use Rattle.terms.specs.Terms.{termsFrom, termsOf}
 use Rattle.terms.specs.Rows.{manyFrom, manyFlaw}
 use Rattle.terms.specs.Scan.{termAt}
 use Rattle.terms.proofs.TermLaws.{terms-some, terms-none, Within, term-within}
-use Rattle.terms.proofs.RowLaws.{many-short}
+use Rattle.terms.proofs.CountLaws.{short-few, spaces-few}
+use Rattle.terms.proofs.RowLaws.{many-few}
 use Rattle.terms.proofs.ScanLaws.{many-ends, many-on}
 use Rattle.terms.proofs.many_flaw.Statement.{statement}
 use Rattle.terms.proofs.many_flaw.Tie as tie
 use Rattle.terms.proofs.many_flaw.Reads as reads
 use Rattle.terms.proofs.many_flaw.Lts as lts
+use Rattle.terms.proofs.spaces.Reads as spaces-reads
 use Rattle.terms.proofs.term_at.Reads as term-at-reads
 
 abbrev Inv-loop : tie.InvT-loop
@@ -30,14 +34,26 @@ abbrev μ-loop : tie.MeasureT-loop
 μ-loop line at₀ k₀ at k = length line - at
 
 -- where a term was found: what that says
-got : (c : tie.After-start Inv-loop μ-loop) → Term (c .start .given .0 .0) (c .start .given .0 .1 .0) ≡ termAt (c .before .before .before .before .before .before .args .line .now) (c .before .before .before .loop .at)
+got : (c : tie.After-start Inv-loop μ-loop) → Term (c .start .given .0 .0) (c .start .given .0 .1 .0) ≡ termAt (c .before .before .before .before .before .before .before .before .args .line .now) (c .before .before .before .loop .at)
 got c = sym (c .start .given .1) ∙ c .before .before .term-at .ensures
 
-within : (c : tie.After-start Inv-loop μ-loop) → Within (c .before .before .before .before .before .before .args .line .now) (c .before .before .before .loop .at) (c .start .given .0 .0) (c .start .given .0 .1 .0)
-within c = term-within (c .before .before .before .before .before .before .args .line .now) (c .before .before .before .loop .at) _ _ (got c)
+within : (c : tie.After-start Inv-loop μ-loop) → Within (c .before .before .before .before .before .before .before .before .args .line .now) (c .before .before .before .loop .at) (c .start .given .0 .0) (c .start .given .0 .1 .0)
+within c = term-within (c .before .before .before .before .before .before .before .before .args .line .now) (c .before .before .before .loop .at) _ _ (got c)
+
+few : (line : List ℕ) → length (termsOf line) ≤ 64 → Fine ≡ manyFlaw line
+unfolding manyFlaw
+few line h = sym (many-few 0 (termsOf line) (omega arith))
 
 returns : tie.Need-returns Inv-loop μ-loop
-returns c = sym (many-short (c .before .before .args .line .now) (c .if1 .taken))
+returns c = few (c .before .before .args .line .now) (short-few (c .before .before .args .line .now) (c .if1 .taken))
+
+spaces-requires : tie.Need-spaces-requires Inv-loop μ-loop
+spaces-requires c κs = search needs
+
+returns-2 : tie.Need-returns-2 Inv-loop μ-loop
+returns-2 c =
+    let l = c .before .before .before .before .args .line .now in
+    few l (spaces-few l (c .before .spaces .result) (c .before .spaces .ensures) (c .if2 .taken))
 
 loop-holds : tie.Need-loop-holds Inv-loop μ-loop
 unfolding manyFlaw termsOf
@@ -52,16 +68,16 @@ enum-known-start c = search needs
 enum-told : tie.Need-enum-told Inv-loop μ-loop
 enum-told c = search needs
 
-returns-2 : tie.Need-returns-2 Inv-loop μ-loop
-unfolding manyFrom
-returns-2 c =
-    let at = c .before .before .before in
-    sym (ap (manyFrom (at .loop .k)) (terms-none (at .before .before .before .args .line .now) (at .loop .at) (sym (c .enum-told .given .1) ∙ c .before .before .term-at .ensures))) ∙ at .loop .inv .0
-
 returns-3 : tie.Need-returns-3 Inv-loop μ-loop
+unfolding manyFrom
 returns-3 c =
+    let at = c .before .before .before in
+    sym (ap (manyFrom (at .loop .k)) (terms-none (at .before .before .before .before .before .args .line .now) (at .loop .at) (sym (c .enum-told .given .1) ∙ c .before .before .term-at .ensures))) ∙ at .loop .inv .0
+
+returns-4 : tie.Need-returns-4 Inv-loop μ-loop
+returns-4 c =
     let at = c .before .before .before .before .before in
-    sym (ap (manyFrom (at .loop .k)) (terms-some (at .before .before .before .args .line .now) (at .loop .at) _ _ (got (c .before .before))) ∙ many-ends (at .loop .k) _ _ (c .if2 .taken)) ∙ at .loop .inv .0
+    sym (ap (manyFrom (at .loop .k)) (terms-some (at .before .before .before .before .before .args .line .now) (at .loop .at) _ _ (got (c .before .before))) ∙ many-ends (at .loop .k) _ _ (c .if3 .taken)) ∙ at .loop .inv .0
 
 add-k : tie.Need-add-k Inv-loop μ-loop
 add-k c = search needs
@@ -75,7 +91,7 @@ loop-less c = let w = within (c .before .before) in let h = w .fits in let p = w
 loop-again : tie.Need-loop-again Inv-loop μ-loop
 loop-again c =
     let at = c .before .before .before .before .before in (
-      sym (ap (manyFrom (at .loop .k)) (terms-some (at .before .before .before .args .line .now) (at .loop .at) _ _ (got (c .before .before))) ∙ many-on (at .loop .k) _ _ (c .if2 .left)) ∙ at .loop .inv .0,
+      sym (ap (manyFrom (at .loop .k)) (terms-some (at .before .before .before .before .before .args .line .now) (at .loop .at) _ _ (got (c .before .before))) ∙ many-on (at .loop .k) _ _ (c .if3 .left)) ∙ at .loop .inv .0,
       within (c .before .before) .fits,
       omega arith,
     )
@@ -87,12 +103,14 @@ many-flaw-spec =
     Inv-loop
     μ-loop
     returns
+    spaces-requires
+    returns-2
     loop-holds
     term-at-requires
     enum-known-start
     enum-told
-    returns-2
     returns-3
+    returns-4
     add-k
     add-at
     loop-less

@@ -15,6 +15,7 @@ use Rattle.terms.specs.declared.Mode.the-variants.{Out, OutGrave, In, In
 use Rattle.terms.specs.Signs.{after}
 use Rattle.terms.specs.Rows.{endMode, opens, openedAt, endFlaw, openFlaw}
 use Rattle.terms.specs.Scan.{ordinary}
+use Rattle.terms.proofs.ByteCases.{out-case, in-case}
 use Rattle.terms.proofs.RunLaws.{run-mode, run-opened-first}
 use Rattle.terms.proofs.ScanLaws.{opened-on, open-is}
 use Rattle.terms.proofs.open_flaw.Statement.{statement}
@@ -39,18 +40,8 @@ mode-turns : (inside taken : Bool) (b : ℕ) → modeOf (cond (cond taken false 
 unfolding after
 mode-turns false true b = refl
 mode-turns true true b = refl
-mode-turns false false b = go (eqb b 96) (eqb b 34) refl refl
-  where
-    go : (x y : Bool) → eqb b 96 ≡ x → eqb b 34 ≡ y → modeOf (cond (eqb b 34) true false) (eqb b 96) ≡ after Out b
-    go true y p r = rw (eqb-true b 96 p)
-    go false true p r = simp (p, r)
-    go false false p r = simp (p, r)
-mode-turns true false b = go (eqb b 96) (eqb b 34) refl refl
-  where
-    go : (x y : Bool) → eqb b 96 ≡ x → eqb b 34 ≡ y → modeOf (cond (eqb b 34) false true) (eqb b 96) ≡ after In b
-    go true y p r = rw (eqb-true b 96 p)
-    go false true p r = simp (p, r)
-    go false false p r = simp (p, r)
+mode-turns false false b = out-case (λ g n. modeOf (cond (eqb b 34) true false) (eqb b 96) ≡ n) b (λ p. rw (eqb-true b 96 p)) (λ p r. simp (p, r)) (λ p r. simp (p, r))
+mode-turns true false b = in-case (λ g n. modeOf (cond (eqb b 34) false true) (eqb b 96) ≡ n) b (λ p. rw (eqb-true b 96 p)) (λ p r. simp (p, r)) (λ p r. simp (p, r))
 
 quote-turns : (inside taken : Bool) (b i q : ℕ) → cond (cond taken false (eqb b 34)) (cond inside q i) q ≡ opens (modeOf inside taken) b i q
 quote-turns false true b i q = refl

@@ -1,0 +1,15 @@
+-- `terms::one_space` meets its contract.
+use borrow.Author.Tests.{eq-eqb, ne-eqb}
+use Rattle.terms.proofs.one_space.Statement.{statement}
+use Rattle.terms.proofs.one_space.Tie as tie
+use Rattle.terms.proofs.one_space.Reads as reads
+use Rattle.terms.proofs.one_space.Lts as lts
+
+returns : tie.Need-returns
+returns c = rw (eq-eqb _ _ (c .if1 .taken))
+
+returns-2 : tie.Need-returns-2
+returns-2 c = rw (ne-eqb _ _ (c .if1 .left))
+
+pub one-space-spec : {M : Type 1} → statement M
+one-space-spec = tie.close (tie.spec returns returns-2)
