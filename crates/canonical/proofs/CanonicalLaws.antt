@@ -1,7 +1,7 @@
 -- What holds of every writing of a line into lent room. Assumes nothing.
-use Prim.Native.Nat.{ℕ, suc, _+_, _<_, _≤_}
-use mathlib.Core.Path.{_≡_, refl, sym, ap, _∙_}
-use mathlib.Core.List.{List, [], _∷_, _++_, append-nil}
+use Prim.Native.Nat.{ℕ, suc, _<_, _≤_}
+use mathlib.Core.Path.{_≡_, sym, ap, _∙_}
+use mathlib.Core.List.{List, [], _++_, append-nil}
 use mathlib.Core.Bool.{true}
 use native.Mathlib.Omega.{arith}
 use lib.ListN.{length, drop, drop-of-length-le}
@@ -12,7 +12,7 @@ use Rattle.text.specs.Room.{wrote, fitted, filled}
 use Rattle.text.proofs.Writes.{fitted-room, fitted-none, filled-room, filled-none}
 use Rattle.terms.specs.Signs.{raws}
 use Rattle.reading.specs.Command.{Item}
-use Rattle.reading.specs.Reading.{Part, Reading, refusal, read, readingOf}
+use Rattle.reading.specs.Reading.{Part, refusal, read, readingOf}
 use Rattle.canonical.specs.Canonical.{writing, itemsOf, writingAnswer, writingRoom}
 use Rattle.canonical.specs.Written.{restOf, totalFrom}
 

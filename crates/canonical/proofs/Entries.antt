@@ -1,45 +1,22 @@
 -- Written item lists of display and output. Assumes nothing.
-use Prim.Native.Nat.{ℕ, zero, suc, _+_, _-_, _<_, _≤_}
-use mathlib.Core.Path.{_≡_, refl, sym, ap, _∙_, subst}
+use Prim.Native.Nat.{ℕ}
+use mathlib.Core.Path.{_≡_, refl, sym, ap, _∙_}
 use mathlib.Core.List.{List, [], _∷_, _++_, map, append-assoc, append-nil}
-use mathlib.Core.Bool.{Bool, true, false, cond, not, _&&_, _||_}
+use mathlib.Core.Bool.{Bool, true, false, cond, not, _&&_}
 use mathlib.Core.Option.{Option, none, some}
-use native.Mathlib.Omega.{arith}
-use lib.ListN.{length, drop, length-append, length-map}
-use lib.Dec.{eqb, leb, ltb}
-use borrow.Author.Tests.{eqb-true, eqb-false, eq-eqb, ne-eqb, le-leb, lt-leb, leb-true, leb-false}
-use Rattle.canonical.specs.Canonical.{bares, writeEntry, writeOptional, writeProperty, writeSaid, writeText, writeTexts, writeValue}
-use Rattle.forms.specs.Forms.{Entry, Property, Said, Value, alone, entriesOf, entry, entryOf, entryParts, equals, hasEq, isName, many, matches, one, property, propertyOf, saidOf, starts, topicOf, valueOf}
-use Rattle.terms.specs.Signs.{Sign, bare, escaped, isBare, quote, quoted, quotedEscaped, raw, raws, stands, standsFor}
-use Rattle.terms.specs.Terms.{isGap}
-use Rattle.text.specs.Bytes.{bytes, isDigit, isLetter, isWord, oneOf, printable}
-use Rattle.text.specs.Lists.{allOf, anyOf, between, each, every, given, isNil, onto, parts, past, upTo}
-use Rattle.canonical.proofs.Lexing.{okBare, good}
+use Rattle.canonical.specs.Canonical.{writeEntry, writeOptional, writeText, writeTexts, writeValue}
+use Rattle.forms.specs.Forms.{Entry, Value, entriesOf, entryOf, entryParts, isName, many, one}
+use Rattle.terms.specs.Signs.{Sign, bare, isBare, bares}
+use Rattle.text.specs.Bytes.{isWord}
+use Rattle.text.specs.Lists.{allOf, anyOf, between, each, every, isNil, onto}
+use Rattle.canonical.proofs.Lexing.{good}
 use Rattle.canonical.proofs.Frame.{cleanSign}
-use Rattle.canonical.proofs.Values.{word-ok, good-bares, raws-bares, none-words, name-words, okValue, value-again, value-good, value-no-eq, value-ok, drop-clean, starts-none, text-none}
+use Rattle.canonical.proofs.Values.{text-none, no-word-40, no-word-41, no-word-44, texts-none}
 use Rattle.canonical.proofs.Names.{okEntry, entry-again, entry-good, entry-ok, name-some, okOptional}
-use Rattle.text.proofs.Basics.{and-l, and-r, and-in, or-l, or-r, either, no-case, all-append, all-up, all-past, up-at, past-at, any-at, any-append, or-case, all-mono, any-between, any-each, given-some, cond-some, every-again, every-ok}
-
-no-word-40 : isWord 40 ≡ false
-unfolding isWord
-no-word-40 = refl
-
-no-word-41 : isWord 41 ≡ false
-unfolding isWord
-no-word-41 = refl
-
-no-word-44 : isWord 44 ≡ false
-unfolding isWord
-no-word-44 = refl
-
-no-word-61 : isWord 61 ≡ false
-unfolding isWord
-no-word-61 = refl
-
--- the first part begins with w
-unfoldable pub ontoAll : List Sign → List (List Sign) → List (List Sign)
-ontoAll [] ps = ps
-ontoAll (x ∷ w) ps = onto x (ontoAll w ps)
+use Rattle.text.proofs.Basics.{and-l, and-r, or-l, or-r, no-case, any-between, every-again, every-ok}
+use Rattle.terms.proofs.TermLaws.{none-bares}
+use Rattle.forms.proofs.PropertyLaws.{name-words}
+use Rattle.forms.proofs.EntryLaws.{ontoAll, onto-cons, entry-parts-some}
 
 pub onto-append : (a b : List Sign) (ps : List (List Sign)) → ontoAll (a ++ b) ps ≡ ontoAll a (ontoAll b ps)
 unfolding ontoAll
@@ -47,9 +24,7 @@ onto-append [] b ps = refl
 onto-append (x ∷ a) b ps = ap (onto x) (onto-append a b ps)
 
 pub onto-nil : (w : List Sign) (ps : List (List Sign)) → ontoAll w ([] ∷ ps) ≡ w ∷ ps
-unfolding ontoAll
-onto-nil [] ps = refl
-onto-nil (x ∷ w) ps = ap (onto x) (onto-nil w ps)
+onto-nil w ps = onto-cons w [] ps ∙ ap (λ (z : List Sign). z ∷ ps) (append-nil w)
 
 -- a text with no parenthesis, in a list; and one with no comma too, outside
 run-in : (w r : List Sign) → anyOf (isBare 40) w ≡ false → anyOf (isBare 41) w ≡ false → entryParts true (w ++ r) ≡ ontoAll w (entryParts true r)
@@ -87,11 +62,6 @@ whole-text : (s : List ℕ) → Whole (writeText s)
 unfolding Whole
 whole-text s r = run-out (writeText s) r (text-none 40 no-word-40 s) (text-none 41 no-word-41 s) (text-none 44 no-word-44 s)
 
-texts-none : (k : ℕ) → isWord k ≡ false → (ss : List (List ℕ)) → allOf (λ w. not (anyOf (isBare k) w)) (writeTexts ss) ≡ true
-unfolding allOf writeTexts
-texts-none k n [] = refl
-texts-none k n (s ∷ ss) = simp (text-none k n s, texts-none k n ss)
-
 whole-value : (v : Value) → Whole (writeValue v)
 unfolding Whole writeValue entryParts ontoAll
 whole-value (one s) r = unfold Whole in whole-text s r
@@ -113,7 +83,7 @@ unfolding writeEntry okEntry
 whole-entry e k =
     let w = name-words (e .name) (and-l (isName (e .name)) (okOptional (e .value)) k) in
     whole-append (bares (e .name)) (writeOptional (e .value))
-    (unfold Whole in λ r. run-out (bares (e .name)) r (none-words 40 no-word-40 (e .name) w) (none-words 41 no-word-41 (e .name) w) (none-words 44 no-word-44 (e .name) w))
+    (unfold Whole in λ r. run-out (bares (e .name)) r (none-bares isWord 40 no-word-40 (e .name) w) (none-bares isWord 41 no-word-41 (e .name) w) (none-bares isWord 44 no-word-44 (e .name) w))
     (whole-optional (e .value))
 
 -- ---- entries with commas between them
@@ -169,21 +139,8 @@ parts-clean l (x ∷ t) e =
     go true p m ih = rw p ih
     go false p m ih = rw p (put-clean x (entryParts m t) (and-l (cleanSign x) (allOf cleanSign t) e) ih)
 
-onto-some : (x : Sign) (ps : List (List Sign)) → isNil (onto x ps) ≡ false
-onto-some x [] = refl
-onto-some x (p ∷ ps) = refl
-
-parts-some : (l : Bool) (t : List Sign) → isNil (entryParts l t) ≡ false
-unfolding entryParts
-parts-some l [] = refl
-parts-some l (x ∷ t) = go (not l && isBare 44 x) refl
-  where
-    go : (b : Bool) → (not l && isBare 44 x) ≡ b → isNil (entryParts l (x ∷ t)) ≡ false
-    go true p = rw p
-    go false p = rw p (onto-some x (entryParts (cond (isBare 40 x) true (cond (isBare 41 x) false l)) t))
-
 pub entries-ok : (t : List Sign) (es : List Entry) → entriesOf t ≡ some es → allOf cleanSign t ≡ true → (isNil es ≡ false) × (allOf okEntry es ≡ true)
 unfolding entriesOf
 entries-ok t es h k =
     let r = every-ok entryOf (allOf cleanSign) okEntry entry-ok (entryParts false t) es h (parts-clean false t k) in
-    (r .1 ∙ parts-some false t, r .2)
+    (r .1 ∙ entry-parts-some false t, r .2)

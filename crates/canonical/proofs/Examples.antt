@@ -1,7 +1,6 @@
 -- Lines and their canonical writings, proved together by computation.
-use Prim.Native.Nat.{ℕ}
 use Prim.Native.String.{String}
-use mathlib.Core.List.{List, map}
+use mathlib.Core.List.{map}
 use mathlib.Core.Path.{_≡_, refl}
 use Rattle.text.specs.Bytes.{bytes, oneOf, sameBytes, isWord}
 use Rattle.text.specs.Lists.{allOf, anyOf, upTo, past, runLen, parts, each, between, walk, every}
@@ -13,9 +12,9 @@ use Rattle.words.specs.Words.{verbNames, longNames, shortNames, names, find, ve
 use Rattle.forms.specs.Forms.{isName, isKeep, isLevel, isPlace, isPlainSign, endsQuote, isText, itemsIn, isList, listOf, textOf, valueOf, entryOf, entryParts, entriesOf, saidOf, propertyOf, topicOf}
 use Rattle.forms.specs.Targets.{tagLen, isNumbered, isStarred, isSegment, areSegments, segmentsOf, pathOf, targetOf}
 use Rattle.reading.specs.Reading.{decideVerb, decideOption, decideArgument, decideTarget, decideProperty, decideAfter, decide, walkTerms, readingOf}
-use Rattle.canonical.specs.Canonical.{bares, inQuotes, closing, writeText, writeTexts, writeValue, writeEntry, writeProperty, escapes, writeMore, writePlace, writing}
+use Rattle.canonical.specs.Canonical.{inQuotes, closing, writeText, writeTexts, writeValue, writeEntry, writeProperty, escapes, writeMore, writePlace, writing}
 use Rattle.canonical.specs.Lines.{writingIn, lines, writings}
 
 pub lines-writings : map (λ (s : String). writingIn (readingOf (bytes s))) lines ≡ map bytes writings
-unfolding lines writings bytes oneOf sameBytes isWord allOf anyOf upTo past runLen parts each between walk every valueFrom isDecimal twelve two after gives signs raws stands termsFrom termsOf longFlaw oddFlaw endMode openedAt openFlaw manyFrom manyFlaw lexicalOf verbNames longNames shortNames names find verbOf optionOf verbName optionName kinds kindOf allName sessionName isName isKeep isLevel isPlace isPlainSign endsQuote isText itemsIn isList listOf textOf valueOf entryOf entryParts entriesOf saidOf propertyOf topicOf tagLen isNumbered isStarred isSegment areSegments segmentsOf pathOf targetOf decideVerb decideOption decideArgument decideTarget decideProperty decideAfter decide walkTerms readingOf bares inQuotes closing writeText writeTexts writeValue writeEntry writeProperty escapes writeMore writePlace writing
+unfolding lines writings bytes oneOf sameBytes isWord allOf anyOf upTo past runLen parts each between walk every valueFrom isDecimal twelve two after gives signs raws stands termsFrom termsOf longFlaw oddFlaw endMode openedAt openFlaw manyFrom manyFlaw lexicalOf verbNames longNames shortNames names find verbOf optionOf verbName optionName kinds kindOf allName sessionName isName isKeep isLevel isPlace isPlainSign endsQuote isText itemsIn isList listOf textOf valueOf entryOf entryParts entriesOf saidOf propertyOf topicOf tagLen isNumbered isStarred isSegment areSegments segmentsOf pathOf targetOf decideVerb decideOption decideArgument decideTarget decideProperty decideAfter decide walkTerms readingOf inQuotes closing writeText writeTexts writeValue writeEntry writeProperty escapes writeMore writePlace writing
 lines-writings = refl

@@ -1,33 +1,30 @@
 -- The read-back theorem from what is said of one term: the walkTerms over the written terms follows the walkTerms over the line's. Assumes nothing.
-use Prim.Native.Nat.{ℕ, zero, suc, _+_, _-_, _<_, _≤_}
-use mathlib.Core.Path.{_≡_, refl, sym, ap, _∙_, subst}
-use mathlib.Core.List.{List, [], _∷_, _++_, map, append-assoc, append-nil}
-use mathlib.Core.Bool.{Bool, true, false, cond, not, _&&_, _||_}
+use Prim.Native.Nat.{ℕ, suc, _+_, _≤_}
+use mathlib.Core.Path.{_≡_, refl, sym, ap, _∙_}
+use mathlib.Core.List.{List, [], _∷_, _++_, map, append-nil}
+use mathlib.Core.Bool.{Bool, true, false, cond, not, _&&_}
 use mathlib.Core.Option.{Option, none, some}
 use native.Mathlib.Omega.{arith}
-use native.Mathlib.Nat.{add-zero, add-suc, suc-add, add-assoc}
-use native.Mathlib.Numerals.{add-one}
-use lib.ListN.{length, length-append, length-map}
-use lib.Dec.{eqb, leb, ltb}
-use borrow.Author.Tests.{eqb-true, eqb-false, eq-eqb, ne-eqb, le-leb, lt-leb, leb-true, leb-false, ltb-true, ltb-false, lt-ltb, le-ltb}
+use lib.ListN.{length, length-map}
 use Rattle.canonical.specs.Canonical.{writeItem, writing}
 use Rattle.reading.specs.Command.{Item}
-use Rattle.reading.specs.Reading.{Decision, Part, Reading, adding, begin, commandIn, commandOf, decide, ended, going, next, partOf, read, readingOf, refusal, refuses, takes, unless, walkTerms}
+use Rattle.reading.specs.Reading.{Decision, Reading, adding, begin, commandIn, commandOf, decide, ended, going, next, partOf, read, readingOf, refusal, refuses, takes, walkTerms}
 use Rattle.reading.specs.declared.Phase.{Phase}
 use Rattle.reading.specs.declared.Phase.the-variants.{First, Options, Rest, Waits}
 use Rattle.reading.specs.declared.State.{State}
-use Rattle.terms.specs.Rows.{endFlaw, endMode, lexicalOf, manyFrom, openedAt, orElse, longFlaw, oddFlaw, openFlaw, manyFlaw}
-use Rattle.terms.specs.Signs.{Sign, after, atEnd, bare, escaped, gives, isBare, quote, quoted, quotedEscaped, raw, raws, signs, standsFor, twelve, two}
+use Rattle.terms.specs.Rows.{endMode}
+use Rattle.terms.specs.Signs.{Sign, after, atEnd, bare, gives, raw, raws, signs, standsFor}
 use Rattle.terms.specs.Terms.{Term, isGap, termsFrom, termsOf}
 use Rattle.terms.specs.declared.Mode.{Mode}
 use Rattle.terms.specs.declared.Mode.the-variants.{In, InGrave, Out, OutGrave}
-use Rattle.text.specs.Bytes.{bytes, oneOf, printable}
-use Rattle.text.specs.Lists.{allOf, anyOf, between, each, given, isNil, runLen, upTo, walk}
-use Rattle.text.specs.declared.Verdict.{Verdict}
-use Rattle.text.specs.declared.Verdict.the-variants.{Fine, Flawed}
-use Rattle.text.proofs.Basics.{and-l, and-r, and-in, no-case, all-append, all-up, either, or-l, or-r}
+use Rattle.text.specs.Bytes.{printable}
+use Rattle.text.specs.Lists.{allOf, anyOf, between, each, given, isNil, upTo, walk}
+use Rattle.text.proofs.Basics.{and-l, and-r, and-in, all-append, all-up, up-at, up-all, or-l, or-r}
 use Rattle.canonical.proofs.Lexing.{good, good-read, good-end, good-clean, good-solid}
-use Rattle.text.proofs.Scans.{all-run, run-all, run-within}
+use Rattle.terms.proofs.TermLaws.{raws-append, bare-signs}
+use Rattle.terms.proofs.ByteCases.{gives-case}
+use Rattle.reading.proofs.PartOrder.{read-walk}
+use Rattle.terms.proofs.RowLaws.{no-row, lone-is, open-is, isGrave, isIn}
 
 -- ---- the texts of terms, without their places
 
@@ -65,16 +62,6 @@ inside-last (x ∷ w) n = simp (or-l (isGap x) (anyOf isGap w) n, inside-last w 
 abbrev pub word : List Sign → Bool
 word w = not (isNil w) && good false w
 
-up-gap : (w r : List Sign) → anyOf isGap w ≡ false → upTo isGap (w ++ (bare 32 ∷ r)) ≡ w
-unfolding upTo anyOf
-up-gap [] r n = refl
-up-gap (x ∷ w) r n = simp (or-l (isGap x) (anyOf isGap w) n, up-gap w r (or-r (isGap x) (anyOf isGap w) n))
-
-up-last : (w : List Sign) → anyOf isGap w ≡ false → upTo isGap w ≡ w
-unfolding upTo anyOf
-up-last [] n = refl
-up-last (x ∷ w) n = simp (or-l (isGap x) (anyOf isGap w) n, up-last w (or-r (isGap x) (anyOf isGap w) n))
-
 word-then : (w r : List Sign) → word w ≡ true → textsOf true (w ++ (bare 32 ∷ r)) ≡ w ∷ textsOf true r
 unfolding textsOf anyOf upTo
 word-then [] r h = cc
@@ -82,7 +69,7 @@ word-then (x ∷ w) r h =
     let n = good-solid false (x ∷ w) h in
     let a = or-l (isGap x) (anyOf isGap w) n in
     let b = or-r (isGap x) (anyOf isGap w) n in
-    simp (a, inside w r b, up-gap w r b)
+    simp (a, inside w r b, up-at isGap w (bare 32) r b refl)
 
 word-last : (w : List Sign) → word w ≡ true → textsOf true w ≡ w ∷ []
 unfolding textsOf anyOf upTo
@@ -91,7 +78,7 @@ word-last (x ∷ w) h =
     let n = good-solid false (x ∷ w) h in
     let a = or-l (isGap x) (anyOf isGap w) n in
     let b = or-r (isGap x) (anyOf isGap w) n in
-    simp (a, inside-last w b, up-last w b)
+    simp (a, inside-last w b, up-all isGap w b)
 
 words-each : (w : List Sign) (ws : List (List Sign)) → word w ≡ true → allOf word ws ≡ true → textsOf true (w ++ each (bare 32) ws) ≡ w ∷ ws
 unfolding each allOf
@@ -106,19 +93,6 @@ words-texts (w ∷ ws) k = words-each w ws (and-l (word w) (allOf word ws) k) (a
 
 -- ---- such a line is read sign by sign, ends outside quotes, and is printable
 
-pub raws-append : (a b : List Sign) → raws (a ++ b) ≡ raws a ++ raws b
-unfolding raws
-raws-append [] b = refl
-raws-append (x ∷ a) b = ap (λ z. raw x ++ z) (raws-append a b) ∙ sym (append-assoc (raw x) (raws a) (raws b))
-
-space-read : (r : List ℕ) → signs Out (32 ∷ r) ≡ bare 32 ∷ signs Out r
-unfolding signs gives after
-space-read r = refl
-
-space-end : (r : List ℕ) → endMode Out (32 ∷ r) ≡ endMode Out r
-unfolding endMode after walk
-space-end r = refl
-
 word-good : (w : List Sign) → word w ≡ true → good false w ≡ true
 word-good w h = and-r (not (isNil w)) (good false w) h
 
@@ -126,7 +100,7 @@ each-read : (ws : List (List Sign)) → allOf word ws ≡ true → signs Out (ra
 unfolding each allOf raws signs
 each-read [] k = refl
 each-read (w ∷ ws) k =
-    space-read (raws (w ++ each (bare 32) ws))
+    bare-signs 32 (raws (w ++ each (bare 32) ws)) refl refl
     ∙ ap (λ z. bare 32 ∷ z)
     (ap (signs Out) (raws-append w (each (bare 32) ws))
     ∙ good-read false w (word-good w (and-l (word w) (allOf word ws) k)) (raws (each (bare 32) ws))
@@ -141,11 +115,10 @@ words-read (w ∷ ws) k =
     ∙ ap (λ z. w ++ z) (each-read ws (and-r (word w) (allOf word ws) k))
 
 each-end : (ws : List (List Sign)) → allOf word ws ≡ true → endMode Out (raws (each (bare 32) ws)) ≡ Out
-unfolding each allOf raws endMode walk
+unfolding each allOf raws endMode walk after
 each-end [] k = refl
 each-end (w ∷ ws) k =
-    space-end (raws (w ++ each (bare 32) ws))
-    ∙ ap (endMode Out) (raws-append w (each (bare 32) ws))
+    ap (endMode Out) (raws-append w (each (bare 32) ws))
     ∙ good-end false w (word-good w (and-l (word w) (allOf word ws) k)) (raws (each (bare 32) ws))
     ∙ each-end ws (and-r (word w) (allOf word ws) k)
 
@@ -173,22 +146,6 @@ words-clean (w ∷ ws) k =
     ∙ all-append printable (raws w) (raws (each (bare 32) ws)) (good-clean false w (word-good w (and-l (word w) (allOf word ws) k)))
     (each-clean ws (and-r (word w) (allOf word ws) k))
 
--- ---- rows 1 to 5
-
-few-many : (k : ℕ) (ts : List Term) → k + length ts ≤ 64 → manyFrom k ts ≡ Fine
-unfolding manyFrom
-few-many k [] h = refl
-few-many k (t ∷ ts) h = simp (ne-eqb k 64 (omega arith), few-many (k + 1) ts (omega arith))
-
-many-few : (k : ℕ) (ts : List Term) → k ≤ 64 → manyFrom k ts ≡ Fine → k + length ts ≤ 64
-unfolding manyFrom
-many-few k [] h e = omega arith
-many-few k (t ∷ ts) h e = go (eqb k 64) refl (many-few (k + 1) ts)
-  where
-    go : (b : Bool) → eqb k 64 ≡ b → (k + 1 ≤ 64 → manyFrom (k + 1) ts ≡ Fine → k + 1 + length ts ≤ 64) → k + suc (length ts) ≤ 64
-    go true p ih = let z : _≡_ {A = ℕ} 0 1 = cc (rw p at e) in absurd (omega arith)
-    go false p ih = let ne = eqb-false k 64 p in let z = ih (omega arith) (rw p at e) in omega arith
-
 length-texts : (ts : List Term) → length (texts ts) ≡ length ts
 unfolding texts
 length-texts [] = refl
@@ -200,29 +157,10 @@ abbrev pub cleanSign : Sign → Bool
 cleanSign x = allOf printable (standsFor x)
 
 gives-clean : (m : Mode) (b : ℕ) → printable b ≡ true → allOf cleanSign (gives m b) ≡ true
-unfolding allOf gives
-gives-clean Out b e = go (eqb b 96) (eqb b 34) refl refl
-  where
-    go : (x y : Bool) → eqb b 96 ≡ x → eqb b 34 ≡ y → allOf cleanSign (gives Out b) ≡ true
-    go true y p q = simp p
-    go false true p q = simp (p, q)
-    go false false p q = simp (p, q, e)
-gives-clean OutGrave b e = go (oneOf twelve b) refl
-  where
-    go : (x : Bool) → oneOf twelve b ≡ x → allOf cleanSign (gives OutGrave b) ≡ true
-    go true p = simp (p, e)
-    go false p = simp (p, e)
-gives-clean In b e = go (eqb b 96) (eqb b 34) refl refl
-  where
-    go : (x y : Bool) → eqb b 96 ≡ x → eqb b 34 ≡ y → allOf cleanSign (gives In b) ≡ true
-    go true y p q = simp p
-    go false true p q = simp (p, q)
-    go false false p q = simp (p, q, e)
-gives-clean InGrave b e = go (oneOf two b) refl
-  where
-    go : (x : Bool) → oneOf two b ≡ x → allOf cleanSign (gives InGrave b) ≡ true
-    go true p = simp (p, e)
-    go false p = simp (p, e)
+unfolding allOf
+gives-clean m b e =
+    gives-case (λ k g n. allOf cleanSign g ≡ true) b (λ _. refl) (λ _ _. refl) (λ _ _. simp e) (λ _. simp e) (λ _. simp e) (λ _. refl) (λ _ _. refl) (λ _ _. simp e) (λ _. simp e)
+    (λ _. simp e) m
 
 end-clean : (m : Mode) → allOf cleanSign (atEnd m) ≡ true
 unfolding allOf
@@ -313,9 +251,6 @@ few-back c line h e t =
     let f : length (map writeItem c) ≡ length c = length-map c writeItem in
     omega arith
 
-clean-back : (w : List ℕ) → allOf printable w ≡ true → length w ≤ runLen printable w
-clean-back w k = let e = all-run printable w k in omega arith
-
 module _ (back : (s : State) (t : List Sign) (i : Item) → decide s t ≡ takes i → cleanText t ≡ true → Back s i) where
   record Follows (s : State) (c : List Item) (n : ℕ) : Type 0 where
     same : follow s (map writeItem c) ≡ some c
@@ -361,27 +296,20 @@ module _ (back : (s : State) (t : List Sign) (i : Item) → decide s t ≡ takes
     walked : commandIn (walkTerms (length line) begin (termsOf line)) ≡ some c
 
   sound : (line : List ℕ) (c : List Item) → commandOf line ≡ some c → Sound line c
-  unfolding commandOf readingOf lexicalOf longFlaw oddFlaw openFlaw manyFlaw
-  sound line c h =
-      go (ltb 1024 (length line)) (ltb (runLen printable line) (length line)) (endFlaw (endMode Out line) (length line) (openedAt Out 0 0 line)) (manyFrom 0 (termsOf line)) refl refl refl refl
+  unfolding commandOf
+  sound line c h = go (readingOf line) refl h
     where
-      no : none ≡ some c → Sound line c
-      no e = let z : _≡_ {A = ℕ} 0 1 = cc in absurd (omega arith)
-
-      go : (a b : Bool) (f g : Verdict) → ltb 1024 (length line) ≡ a → ltb (runLen printable line) (length line) ≡ b
-          → endFlaw (endMode Out line) (length line) (openedAt Out 0 0 line) ≡ f → manyFrom 0 (termsOf line) ≡ g → Sound line c
-      go true b f g p q r u = no (rw p at h)
-      go false true f g p q r u = no (rw (p, q) at h)
-      go false false (Flawed n a) g p q r u = no (rw (p, q, r) at h)
-      go false false Fine (Flawed n a) p q r u = no (rw (p, q, r, u) at h)
-      go false false Fine Fine p q r u =
-          let m = many-few 0 (termsOf line) (omega arith) u in
-          record { clean = run-all printable line (let z = ltb-false (runLen printable line) (length line) q in let w = run-within printable line in omega arith); few = omega arith; walked = rw (p, q, r, u) at h }
+      go : (r : Reading) → readingOf line ≡ r → commandIn r ≡ some c → Sound line c
+      go (refusal n p) e k = let z : _≡_ {A = ℕ} 0 1 = cc in absurd (omega arith)
+      go (read ps) e k =
+          let w = read-walk line ps e in
+          let n = no-row line .1 (w .0) in
+          record { clean = n .clean; few = n .few; walked = ap commandIn (w .1) ∙ k }
 
   -- ---- THE READ-BACK THEOREM, from what is said of one term
 
   pub read-back : (line : List ℕ) (c : List Item) → commandOf line ≡ some c → length (writing c) ≤ 1024 → commandOf (writing c) ≡ some c
-  unfolding commandOf readingOf lexicalOf longFlaw oddFlaw openFlaw manyFlaw writing
+  unfolding commandOf readingOf writing
   read-back line c h short =
       let o = sound line c h in
       let ts = texts (termsOf line) in
@@ -391,9 +319,12 @@ module _ (back : (s : State) (t : List Sign) (i : Item) → decide s t ≡ takes
       let ws = map writeItem c in
       let w = raws (between (bare 32) ws) in
       let t : texts (termsOf w) ≡ ws = texts-back ws (f .words) in
-      let n : length (termsOf w) ≤ 64 = few-back c line (o .few) (f .many) t in
-      let a = le-ltb 1024 (length w) short in
-      let b = le-ltb (runLen printable w) (length w) (clean-back w (words-clean ws (f .words))) in
-      let x : endFlaw (endMode Out w) (length w) (openedAt Out 0 0 w) ≡ Fine = rw (words-end ws (f .words)) in
-      let y = few-many 0 (termsOf w) (omega arith) in
-      rw (a, b, x, y) (walk-follow (length w) begin (termsOf w) ∙ ap (follow begin) t ∙ f .same)
+      let m : endMode Out w ≡ Out = words-end ws (f .words) in
+      let fine = no-row w .0 (record {
+        short = short;
+        clean = words-clean ws (f .words);
+        paired = lone-is w ∙ ap isGrave m;
+        closed = open-is w ∙ ap isIn m;
+        few = few-back c line (o .few) (f .many) t;
+      }) in
+      rw fine (walk-follow (length w) begin (termsOf w) ∙ ap (follow begin) t ∙ f .same)

@@ -1,20 +1,19 @@
 -- Written texts are read sign by sign as they were written. Assumes nothing.
-use Prim.Native.Nat.{ℕ, zero, suc, _+_, _-_, _<_, _≤_}
+use Prim.Native.Nat.{ℕ}
 use mathlib.Core.Path.{_≡_, refl, sym, ap, _∙_}
-use mathlib.Core.List.{List, [], _∷_, _++_, map, append-assoc, append-nil}
-use mathlib.Core.Bool.{Bool, true, false, cond, not, _&&_, _||_}
-use native.Mathlib.Omega.{arith}
-use lib.ListN.{length, length-append}
-use lib.Dec.{eqb, leb, ltb}
+use mathlib.Core.List.{List, [], _∷_, _++_, append-assoc}
+use mathlib.Core.Bool.{Bool, true, false, not, _&&_}
+use lib.Dec.{eqb}
 use Rattle.terms.specs.Rows.{endMode}
-use Rattle.terms.specs.Signs.{Sign, after, bare, escaped, gives, isBare, quote, quoted, quotedEscaped, raw, raws, signs, twelve, two}
+use Rattle.terms.specs.Signs.{Sign, after, bare, escaped, gives, quote, quoted, quotedEscaped, raw, raws, signs, twelve, two}
 use Rattle.terms.specs.Terms.{isGap}
-use Rattle.terms.specs.declared.Mode.{Mode}
-use Rattle.terms.specs.declared.Mode.the-variants.{In, InGrave, Out, OutGrave}
-use Rattle.text.specs.Bytes.{bytes, oneOf, printable}
-use Rattle.text.specs.Lists.{allOf, anyOf, between, each, upTo, walk}
-use Rattle.text.proofs.Basics.{and-l, and-r, and-in, no-case, all-append}
+use Rattle.terms.specs.declared.Mode.the-variants.{Out}
+use Rattle.text.specs.Bytes.{oneOf, printable}
+use Rattle.text.specs.Lists.{allOf, anyOf, walk}
+use Rattle.text.proofs.Basics.{and-l, and-r, no-case, all-append}
 use borrow.Author.Tests.{not-true}
+use Rattle.terms.specs.RowWords.{turns}
+use Rattle.terms.proofs.Paper.{modeOf}
 
 -- a byte that may be written bare
 abbrev pub okBare : ℕ → Bool
@@ -36,24 +35,13 @@ okSign true quote = true
 okSign true (quoted b) = okQuoted b
 okSign true (quotedEscaped b) = oneOf two b && printable b
 
-abbrev pub turn : Bool → Sign → Bool
-turn q (bare b) = q
-turn q (escaped b) = q
-turn q quote = not q
-turn q (quoted b) = q
-turn q (quotedEscaped b) = q
-
 -- a text that a term can be: printable, no bare space, each sign where it can stand, quotes closed
 unfoldable pub good : Bool → List Sign → Bool
 good q [] = not q
-good q (x ∷ w) = okSign q x && good (turn q x) w
-
-abbrev pub modeOf : Bool → Mode
-modeOf false = Out
-modeOf true = In
+good q (x ∷ w) = okSign q x && good (turns q x) w
 
 -- one sign
-sign-read : (q : Bool) (x : Sign) → okSign q x ≡ true → (r : List ℕ) → signs (modeOf q) (raw x ++ r) ≡ x ∷ signs (modeOf (turn q x)) r
+sign-read : (q : Bool) (x : Sign) → okSign q x ≡ true → (r : List ℕ) → signs (modeOf q) (raw x ++ r) ≡ x ∷ signs (modeOf (turns q x)) r
 unfolding signs gives after
 sign-read false (bare b) e r =
     let g = not-true (eqb b 96) (and-l (not (eqb b 96)) (not (eqb b 34) && printable b) (and-r (not (eqb b 32)) (okQuoted b) e)) in
@@ -72,7 +60,7 @@ sign-read true (quoted b) e r =
     simp (g, h)
 sign-read true (quotedEscaped b) e r = simp (and-l (oneOf two b) (printable b) e)
 
-sign-end : (q : Bool) (x : Sign) → okSign q x ≡ true → (r : List ℕ) → endMode (modeOf q) (raw x ++ r) ≡ endMode (modeOf (turn q x)) r
+sign-end : (q : Bool) (x : Sign) → okSign q x ≡ true → (r : List ℕ) → endMode (modeOf q) (raw x ++ r) ≡ endMode (modeOf (turns q x)) r
 unfolding endMode after walk
 sign-end false (bare b) e r =
     let g = not-true (eqb b 96) (and-l (not (eqb b 96)) (not (eqb b 34) && printable b) (and-r (not (eqb b 32)) (okQuoted b) e)) in
@@ -98,8 +86,8 @@ good-read false [] e r = refl
 good-read true [] e r = no-case (sym e)
 good-read q (x ∷ w) e r =
     ap (signs (modeOf q)) (append-assoc (raw x) (raws w) r)
-    ∙ sign-read q x (and-l (okSign q x) (good (turn q x) w) e) (raws w ++ r)
-    ∙ ap (λ z. x ∷ z) (good-read (turn q x) w (and-r (okSign q x) (good (turn q x) w) e) r)
+    ∙ sign-read q x (and-l (okSign q x) (good (turns q x) w) e) (raws w ++ r)
+    ∙ ap (λ z. x ∷ z) (good-read (turns q x) w (and-r (okSign q x) (good (turns q x) w) e) r)
 
 pub good-end : (q : Bool) (w : List Sign) → good q w ≡ true → (r : List ℕ) → endMode (modeOf q) (raws w ++ r) ≡ endMode Out r
 unfolding good raws
@@ -107,8 +95,8 @@ good-end false [] e r = refl
 good-end true [] e r = no-case (sym e)
 good-end q (x ∷ w) e r =
     ap (endMode (modeOf q)) (append-assoc (raw x) (raws w) r)
-    ∙ sign-end q x (and-l (okSign q x) (good (turn q x) w) e) (raws w ++ r)
-    ∙ good-end (turn q x) w (and-r (okSign q x) (good (turn q x) w) e) r
+    ∙ sign-end q x (and-l (okSign q x) (good (turns q x) w) e) (raws w ++ r)
+    ∙ good-end (turns q x) w (and-r (okSign q x) (good (turns q x) w) e) r
 
 -- its bytes are printable, and no sign of it is a gap
 sign-clean : (q : Bool) (x : Sign) → okSign q x ≡ true → allOf printable (raw x) ≡ true
@@ -129,8 +117,8 @@ pub good-clean : (q : Bool) (w : List Sign) → good q w ≡ true → allOf prin
 unfolding good raws allOf
 good-clean q [] e = refl
 good-clean q (x ∷ w) e =
-    all-append printable (raw x) (raws w) (sign-clean q x (and-l (okSign q x) (good (turn q x) w) e))
-    (good-clean (turn q x) w (and-r (okSign q x) (good (turn q x) w) e))
+    all-append printable (raw x) (raws w) (sign-clean q x (and-l (okSign q x) (good (turns q x) w) e))
+    (good-clean (turns q x) w (and-r (okSign q x) (good (turns q x) w) e))
 
 sign-solid : (q : Bool) (x : Sign) → okSign q x ≡ true → isGap x ≡ false
 sign-solid false (bare b) e = not-true (eqb b 32) (and-l (not (eqb b 32)) (okQuoted b) e)
@@ -144,4 +132,4 @@ pub good-solid : (q : Bool) (w : List Sign) → good q w ≡ true → anyOf isGa
 unfolding good anyOf
 good-solid q [] e = refl
 good-solid q (x ∷ w) e =
-    simp (sign-solid q x (and-l (okSign q x) (good (turn q x) w) e), good-solid (turn q x) w (and-r (okSign q x) (good (turn q x) w) e))
+    simp (sign-solid q x (and-l (okSign q x) (good (turns q x) w) e), good-solid (turns q x) w (and-r (okSign q x) (good (turns q x) w) e))

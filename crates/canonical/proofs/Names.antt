@@ -1,32 +1,27 @@
 -- Written properties and entries: a name with or without a value. Assumes nothing.
-use Prim.Native.Nat.{ℕ, zero, suc, _+_, _-_, _<_, _≤_}
-use mathlib.Core.Path.{_≡_, refl, sym, ap, _∙_, subst}
-use mathlib.Core.List.{List, [], _∷_, _++_, map, append-assoc, append-nil}
-use mathlib.Core.Bool.{Bool, true, false, cond, not, _&&_, _||_}
+use Prim.Native.Nat.{ℕ}
+use mathlib.Core.Path.{_≡_, refl, sym, ap, _∙_}
+use mathlib.Core.List.{List, [], _∷_, _++_, append-assoc, append-nil}
+use mathlib.Core.Bool.{Bool, true, false, _&&_}
 use mathlib.Core.Option.{Option, none, some}
 use native.Mathlib.Omega.{arith}
-use lib.ListN.{length, drop, length-append, length-map}
-use lib.Dec.{eqb, leb, ltb}
-use borrow.Author.Tests.{eqb-true, eqb-false, eq-eqb, ne-eqb, le-leb, lt-leb, leb-true, leb-false}
-use Rattle.canonical.specs.Canonical.{bares, writeEntry, writeOptional, writeProperty, writeSaid, writeText, writeTexts, writeValue}
-use Rattle.forms.specs.Forms.{Entry, Property, Said, Value, alone, entriesOf, entry, entryOf, entryParts, equals, hasEq, isName, many, matches, one, property, propertyOf, saidOf, starts, topicOf, valueOf}
-use Rattle.terms.specs.Signs.{Sign, bare, escaped, isBare, quote, quoted, quotedEscaped, raw, raws, stands, standsFor}
-use Rattle.terms.specs.Terms.{isGap}
-use Rattle.text.specs.Bytes.{bytes, isDigit, isLetter, isWord, oneOf, printable}
-use Rattle.text.specs.Lists.{allOf, anyOf, between, each, every, given, isNil, onto, parts, past, upTo}
+use lib.ListN.{drop}
+use Rattle.canonical.specs.Canonical.{writeEntry, writeOptional, writeProperty, writeSaid, writeValue}
+use Rattle.forms.specs.Forms.{Entry, Property, Said, Value, alone, entry, entryOf, equals, hasEq, isName, matches, property, propertyOf, saidOf, starts, topicOf, valueOf}
+use Rattle.terms.specs.Signs.{Sign, bare, isBare, raws, bares}
+use Rattle.text.specs.Bytes.{isWord}
+use Rattle.text.specs.Lists.{allOf, anyOf, given, isNil, past, upTo}
 use Rattle.canonical.proofs.Lexing.{okBare, good}
 use Rattle.canonical.proofs.Frame.{cleanSign}
-use Rattle.canonical.proofs.Values.{word-ok, good-bares, raws-bares, none-words, name-words, okValue, value-again, value-good, value-no-eq, value-ok, drop-clean, starts-none, text-none}
-use Rattle.text.proofs.Basics.{and-l, and-r, and-in, or-l, or-r, either, no-case, all-append, all-up, all-past, up-at, past-at, any-at, any-append, or-case, all-mono, any-between, any-each, given-some, cond-some}
-
-no-word-61 : isWord 61 ≡ false
-unfolding isWord
-no-word-61 = refl
+use Rattle.canonical.proofs.Values.{word-ok, good-bares, okValue, value-again, value-good, value-no-eq, value-ok, no-word-61}
+use Rattle.text.proofs.Basics.{and-l, and-r, and-in, no-case, all-past, up-at, past-at, any-at, all-mono, given-some, cond-some, all-drop}
+use Rattle.terms.proofs.TermLaws.{raws-bares, none-bares}
+use Rattle.forms.proofs.PropertyLaws.{name-words}
 
 -- ---- a name, `=` and more
 
 pub name-eq-none : (n : List ℕ) → isName n ≡ true → anyOf (isBare 61) (bares n) ≡ false
-name-eq-none n k = none-words 61 no-word-61 n (name-words n k)
+name-eq-none n k = none-bares isWord 61 no-word-61 n (name-words n k)
 
 pub name-has : (n : List ℕ) (w : List Sign) → hasEq (bares n ++ (bare 61 ∷ w)) ≡ true
 name-has n w = any-at (isBare 61) (bares n) (bare 61) w refl
@@ -41,7 +36,7 @@ pub name-good : (n : List ℕ) (w : List Sign) → isName n ≡ true → good fa
 name-good n w k = good-bares n w (all-mono isWord okBare word-ok n (name-words n k))
 
 pub name-some : (n : List ℕ) (w : List Sign) → isName n ≡ true → isNil (bares n ++ w) ≡ false
-unfolding isName bares
+unfolding isName
 name-some [] w k = no-case (sym k)
 name-some (b ∷ s) w k = refl
 
@@ -112,7 +107,7 @@ said-ok t s h e = go (starts 61 t) refl
     go true p =
         let g = given-some (valueOf (drop 1 t)) (λ v. some (matches v)) s (rw p at h) in
         let z : s ≡ matches (g .what) = cc (g .gives) in
-        rw z (record { ok = value-ok (drop 1 t) (g .what) (g .is) (drop-clean t e); has = λ n. name-has n (bare 61 ∷ writeValue (g .what)) })
+        rw z (record { ok = value-ok (drop 1 t) (g .what) (g .is) (all-drop cleanSign 1 t e); has = λ n. name-has n (bare 61 ∷ writeValue (g .what)) })
     go false p =
         let g = given-some (valueOf t) (λ v. some (equals v)) s (rw p at h) in
         let z : s ≡ equals (g .what) = cc (g .gives) in

@@ -1,26 +1,27 @@
--- Written arguments: numbers and places. And the tables. Assumes nothing.
-use Prim.Native.Nat.{ℕ, zero, suc, _+_, _-_, _<_, _≤_}
-use mathlib.Core.Path.{_≡_, refl, sym, ap, _∙_, subst}
-use mathlib.Core.List.{List, [], _∷_, _++_, map, append-assoc, append-nil}
-use mathlib.Core.Bool.{Bool, true, false, cond, not, _&&_, _||_}
-use mathlib.Core.Option.{Option, none, some}
-use native.Mathlib.Omega.{arith}
-use lib.ListN.{length, drop, getD}
-use lib.Dec.{eqb, leb, ltb}
-use borrow.Author.Tests.{eqb-true, eqb-false, eq-eqb, ne-eqb, not-true}
-use Rattle.canonical.specs.Canonical.{bares, escapes, writeMore, writePlace}
+-- Written arguments: numbers and places. And written names. Assumes nothing.
+use Prim.Native.Nat.{ℕ}
+use mathlib.Core.Path.{_≡_, refl, sym, ap, _∙_}
+use mathlib.Core.List.{List, [], _∷_, append-nil}
+use mathlib.Core.Bool.{Bool, true, false, not, _&&_, _||_}
+use mathlib.Core.Option.{some}
+use lib.Dec.{eqb}
+use borrow.Author.Tests.{eqb-true}
+use Rattle.canonical.specs.Canonical.{escapes, writeMore, writePlace}
 use Rattle.forms.specs.Forms.{hasEq, isKeep, isLevel, isMark, isPlace, starts}
 use Rattle.forms.specs.Targets.{isSeparator}
-use Rattle.terms.specs.Signs.{Sign, bare, escaped, isBare, quote, quoted, quotedEscaped, raw, raws, stands, standsFor, twelve}
-use Rattle.text.specs.Bytes.{bytes, isDigit, isLetter, isWord, oneOf, printable, sameBytes}
+use Rattle.terms.specs.Signs.{Sign, bare, escaped, isBare, quote, quoted, quotedEscaped, stands, standsFor, twelve, bares}
+use Rattle.text.specs.Bytes.{bytes, isDigit, isWord, oneOf, printable, sameBytes}
 use Rattle.text.specs.Decimal.{isDecimal}
 use Rattle.text.specs.Lists.{allOf, anyOf, isNil}
-use Rattle.words.specs.Words.{find, longNames, optionName, optionOf, or, shortNames, verbName, verbNames, verbOf, names, allName}
-use Rattle.canonical.proofs.Lexing.{okBare, okSign, turn, good}
-use Rattle.canonical.proofs.Frame.{cleanSign, word}
-use Rattle.canonical.proofs.Values.{good-bares, raws-bares, none-bares, starts-none}
-use Rattle.canonical.proofs.Targets.{okWritten, digit-segment, okSegment, digits-of, same-all}
-use Rattle.text.proofs.Basics.{and-l, and-r, and-in, or-l, or-r, no-case, or-case, all-mono}
+use Rattle.words.specs.Words.{optionName, optionOf, verbName, verbOf, names, allName}
+use Rattle.canonical.proofs.Lexing.{okBare, okSign, good}
+use Rattle.canonical.proofs.Values.{good-bares, starts-none, word-byte}
+use Rattle.canonical.proofs.Targets.{okWritten, digit-segment, byte-segment}
+use Rattle.text.proofs.Basics.{and-l, and-r, and-in, or-l, or-r, no-case, or-case, all-mono, same-eq}
+use Rattle.terms.proofs.TermLaws.{none-bares}
+use Rattle.text.proofs.Decimals.{decimal-made}
+use Rattle.words.proofs.WordLaws.{verb-again, verb-shape, verb-only-name, option-again, option-shape, option-only-name}
+use Rattle.terms.specs.RowWords.{turns}
 
 -- ---- bare texts
 
@@ -30,27 +31,17 @@ written-good s e =
     ap (good false) (sym (append-nil (bares s))) ∙ good-bares s [] (all-mono okWritten okBare (λ b h. and-l (okBare b) (not (eqb b 61) && not (eqb b 45)) h) s e)
 
 pub written-eq : (s : List ℕ) → allOf okWritten s ≡ true → hasEq (bares s) ≡ false
-written-eq s e =
-    none-bares 61 s
-    (all-mono okWritten (λ b. not (eqb b 61)) (λ b h. and-l (not (eqb b 61)) (not (eqb b 45)) (and-r (okBare b) (not (eqb b 61) && not (eqb b 45)) h)) s e)
+written-eq s e = none-bares okWritten 61 refl s e
 
 pub written-dash : (s : List ℕ) → allOf okWritten s ≡ true → starts 45 (bares s) ≡ false
-written-dash s e =
-    starts-none 45 (bares s)
-    (none-bares 45 s
-    (all-mono okWritten (λ b. not (eqb b 45)) (λ b h. and-r (not (eqb b 61)) (not (eqb b 45)) (and-r (okBare b) (not (eqb b 61) && not (eqb b 45)) h)) s e))
-
-pub bares-some : (s : List ℕ) → isNil s ≡ false → isNil (bares s) ≡ false
-unfolding bares
-bares-some [] e = e
-bares-some (b ∷ s) e = refl
+written-dash s e = starts-none 45 (bares s) (none-bares okWritten 45 refl s e)
 
 -- ---- numbers
 
 keep-written : (s : List ℕ) → isKeep s ≡ true → allOf okWritten s ≡ true
 unfolding isKeep
 keep-written s e =
-    all-mono isDigit okWritten (λ b h. and-l (okWritten b) (not (isSeparator b)) (digit-segment b h)) s (digits-of 4294967295 s e)
+    all-mono isDigit okWritten (λ b h. and-l (okWritten b) (not (isSeparator b)) (digit-segment b h)) s (decimal-made 4294967295 s e .all)
 
 keep-some : (s : List ℕ) → isKeep s ≡ true → isNil s ≡ false
 unfolding isKeep isDecimal
@@ -82,7 +73,7 @@ pub level-ok : (s : List ℕ) → isLevel s ≡ true → NumberOk s
 unfolding isLevel
 level-ok s e =
     or-case (isKeep s) (names allName s) e (keep-ok s)
-    (λ n. let p = named allName s n in record { bytesOk = same-all okWritten s allName p all-written; isSome = all-some s p })
+    (λ n. let p = named allName s n in record { bytesOk = ap (allOf okWritten) (same-eq s allName p) ∙ all-written; isSome = all-some s p })
 
 -- ---- places
 
@@ -101,7 +92,7 @@ escape-twelve l b e =
 -- one byte of it
 record Escaped (l : Bool) (b : ℕ) : Type 0 where
   ok : okSign false (escapes l b) ≡ true
-  stays : turn false (escapes l b) ≡ false
+  stays : turns false (escapes l b) ≡ false
   means : standsFor (escapes l b) ≡ b ∷ []
   mark : isMark (escapes l b) ≡ false
   dash : l ≡ true → isBare 45 (escapes l b) ≡ false
@@ -177,47 +168,10 @@ stands-some (quote ∷ t) n e = no-case (sym e)
 stands-some (quoted b ∷ t) n e = refl
 stands-some (quotedEscaped b ∷ t) n e = refl
 
--- ---- the tables: what holds of each number of a table holds of the number that was found
+-- ---- the names of the tables
 
-abbrev pub allFrom : (ℕ → Bool) → ℕ → List (List ℕ) → Bool
-allFrom f k [] = true
-allFrom f k (n ∷ ns) = f k && allFrom f (suc k) ns
-
-pub found-passes : (f : ℕ → Bool) (k : ℕ) (ns : List (List ℕ)) (s : List ℕ) (m : ℕ) → find k ns s ≡ some m → allFrom f k ns ≡ true → f m ≡ true
-unfolding find
-found-passes f k [] s m h e = let z : _≡_ {A = ℕ} 0 1 = cc in absurd (omega arith)
-found-passes f k (n ∷ ns) s m h e = go (names n s) refl (λ x. found-passes f (suc k) ns s m x (and-r (f k) (allFrom f (suc k) ns) e))
-  where
-    go : (x : Bool) → names n s ≡ x → (find (suc k) ns s ≡ some m → f m ≡ true) → f m ≡ true
-    go true p ih = let z : m ≡ k = cc (rw p at h) in rw z (and-l (f k) (allFrom f (suc k) ns) e)
-    go false p ih = ih (rw p at h)
-
-isNumber : Option ℕ → ℕ → Bool
-isNumber none n = false
-isNumber (some m) n = eqb m n
-
-is-number : (o : Option ℕ) (n : ℕ) → isNumber o n ≡ true → o ≡ some n
-unfolding isNumber
-is-number none n e = let z : _≡_ {A = ℕ} 0 1 = cc in absurd (omega arith)
-is-number (some m) n e = ap some (eqb-true m n e)
-
-rightVerb : ℕ → Bool
-rightVerb n = isNumber (verbOf (verbName n)) n && (not (isNil (verbName n)) && allOf okWritten (verbName n))
-
-rightOption : ℕ → Bool
-rightOption n = isNumber (optionOf (optionName n)) n && allOf okWritten (optionName n)
-
-verbs-right : allFrom rightVerb 1 verbNames ≡ true
-unfolding rightVerb verbNames verbOf verbName find names sameBytes bytes isNumber allOf
-verbs-right = refl
-
-long-right : allFrom rightOption 1 longNames ≡ true
-unfolding rightOption longNames shortNames optionOf optionName find names sameBytes bytes isNumber allOf
-long-right = refl
-
-short-right : allFrom rightOption 1 shortNames ≡ true
-unfolding rightOption longNames shortNames optionOf optionName find names sameBytes bytes isNumber allOf
-short-right = refl
+word-written : (b : ℕ) → isWord b ≡ true → okWritten b ≡ true
+word-written b e = and-l (okWritten b) (not (isSeparator b)) (byte-segment b (word-byte b e))
 
 pub record VerbOk (n : ℕ) : Type 0 where
   pub again : verbOf (verbName n) ≡ some n
@@ -225,34 +179,16 @@ pub record VerbOk (n : ℕ) : Type 0 where
   pub isSome : isNil (verbName n) ≡ false
 
 pub verb-ok : (s : List ℕ) (n : ℕ) → verbOf s ≡ some n → VerbOk n
-unfolding verbOf rightVerb
 verb-ok s n h =
-    let r : rightVerb n ≡ true = found-passes rightVerb 1 verbNames s n h verbs-right in
-    let a = and-l (isNumber (verbOf (verbName n)) n) (not (isNil (verbName n)) && allOf okWritten (verbName n)) r in
-    let b = and-r (isNumber (verbOf (verbName n)) n) (not (isNil (verbName n)) && allOf okWritten (verbName n)) r in
-    record {
-      again = is-number (verbOf (verbName n)) n a;
-      bytesOk = and-r (not (isNil (verbName n))) (allOf okWritten (verbName n)) b;
-      isSome = not-true (isNil (verbName n)) (and-l (not (isNil (verbName n))) (allOf okWritten (verbName n)) b);
-    }
+    let o = verb-only-name s n h in
+    let f = verb-shape n (o .0) (o .1) in
+    record { again = verb-again n (o .0) (o .1); bytesOk = all-mono isWord okWritten word-written (verbName n) (f .2); isSome = f .0 }
 
 pub record OptionOk (n : ℕ) : Type 0 where
   pub again : optionOf (optionName n) ≡ some n
   pub bytesOk : allOf okWritten (optionName n) ≡ true
 
-option-right : (s : List ℕ) (n : ℕ) → optionOf s ≡ some n → rightOption n ≡ true
-unfolding optionOf
-option-right s n h = go (find 1 longNames s) refl
-  where
-    go : (o : Option ℕ) → find 1 longNames s ≡ o → rightOption n ≡ true
-    go none p = found-passes rightOption 1 shortNames s n (rw p at h) short-right
-    go (some m) p = let z : m ≡ n = cc (rw p at h) in found-passes rightOption 1 longNames s n (p ∙ ap some z) long-right
-
 pub option-ok : (s : List ℕ) (n : ℕ) → optionOf s ≡ some n → OptionOk n
-unfolding rightOption
 option-ok s n h =
-    let r : rightOption n ≡ true = option-right s n h in
-    record {
-      again = is-number (optionOf (optionName n)) n (and-l (isNumber (optionOf (optionName n)) n) (allOf okWritten (optionName n)) r);
-      bytesOk = and-r (isNumber (optionOf (optionName n)) n) (allOf okWritten (optionName n)) r;
-    }
+    let o = option-only-name s n h in
+    record { again = option-again n (o .0) (o .1); bytesOk = all-mono isWord okWritten word-written (optionName n) (option-shape n (o .0) (o .1) .2) }

@@ -1,46 +1,38 @@
 -- THE READ-BACK THEOREM: the canonical writing of a line that is read as a command, if it has at most 1,024 bytes, is read as the same command. Assumes nothing.
-use Prim.Native.Nat.{ℕ, zero, suc, _+_, _-_, _<_, _≤_}
-use mathlib.Core.Path.{_≡_, refl, sym, ap, _∙_, subst}
-use mathlib.Core.List.{List, [], _∷_, _++_, map, append-assoc, append-nil}
-use mathlib.Core.Bool.{Bool, true, false, cond, not, _&&_, _||_}
-use mathlib.Core.Option.{Option, none, some}
+use Prim.Native.Nat.{ℕ, _<_, _≤_}
+use mathlib.Core.Path.{_≡_, refl, sym, ap, _∙_}
+use mathlib.Core.List.{List, [], _∷_, _++_, map, append-assoc}
+use mathlib.Core.Bool.{Bool, true, false, cond, not, _&&_}
+use mathlib.Core.Option.{some}
 use native.Mathlib.Omega.{arith}
 use lib.ListN.{length, drop, getD}
-use lib.Dec.{eqb, leb, ltb}
-use borrow.Author.Tests.{ne-eqb, not-true}
+use lib.Dec.{leb}
+use borrow.Author.Tests.{ne-eqb, not-true, not-false, lt-leb}
 use Rattle.canonical.proofs.Frame as frame
-use Rattle.canonical.specs.Canonical.{bares, writeArgument, writeEntry, writeItem, writeOptional, writePlace, writeProperty, writeSaid, writeTarget, writing}
+use Rattle.canonical.specs.Canonical.{writeArgument, writeEntry, writeItem, writeOptional, writePlace, writeProperty, writeSaid, writeTarget, writing}
 use Rattle.forms.specs.Forms.{Entry, Property, entriesOf, hasEq, isKeep, isLevel, isName, isPlace, propertyOf, starts, topicOf}
 use Rattle.forms.specs.Targets.{Target, targetOf}
 use Rattle.reading.specs.Command.{Argument, Item, argument, argumentBy, items, number, option, prop, target, text, verb}
-use Rattle.reading.specs.Reading.{Decision, commandOf, decide, decideAfter, decideArgument, decideIn, decideOption, decideProperty, decideTarget, decideVerb, notSeen, orNo, refuses, takes}
+use Rattle.reading.specs.Reading.{commandOf, decide, decideAfter, decideArgument, decideIn, decideOption, decideProperty, decideTarget, decideVerb, takes}
 use Rattle.reading.specs.declared.Phase.{Phase}
 use Rattle.reading.specs.declared.Phase.the-variants.{First, Options, Rest, Waits}
 use Rattle.reading.specs.declared.State.{State}
-use Rattle.terms.specs.Signs.{Sign, bare, isBare, raw, raws, stands}
+use Rattle.terms.specs.Signs.{Sign, bare, raws, stands, bares}
 use Rattle.text.specs.Bytes.{isLetter, isWord, printable}
-use Rattle.text.specs.Lists.{allOf, between, each, given, isNil}
+use Rattle.text.specs.Lists.{allOf, between, each, isNil}
 use Rattle.words.specs.Words.{kindOf, optionName, optionOf, verbName, verbOf}
 use Rattle.words.specs.declared.Kind.{Kind}
 use Rattle.words.specs.declared.Kind.the-variants.{Entries, Keep, Level, Mere, Place}
 use Rattle.canonical.proofs.Lexing.{good}
 use Rattle.canonical.proofs.Frame.{cleanSign, cleanText, word, Back}
-use Rattle.canonical.proofs.Values.{letter-byte, raws-bares, stands-clean}
+use Rattle.canonical.proofs.Values.{letter-byte, stands-clean}
 use Rattle.canonical.proofs.Names.{okSaid, okProperty, okEntry, okOptional, property-again, property-good, property-some, property-ok, topic-again}
 use Rattle.canonical.proofs.Entries.{entries-again, entries-good, entries-some, entries-ok}
 use Rattle.canonical.proofs.Targets.{okWritten, target-ok}
-use Rattle.canonical.proofs.Places.{written-good, written-eq, written-dash, bares-some, NumberOk, keep-ok, level-ok, place-ok, stands-some, verb-ok, option-ok}
-use Rattle.text.proofs.Basics.{and-l, and-r, and-in, or-l, or-r, no-case, given-some, cond-some}
-
--- what a decision was made from
-pub record Made {A : Type 0} (o : Option A) (f : A → Item) (i : Item) : Type 0 where
-  pub what : A
-  pub is : o ≡ some what
-  pub gives : i ≡ f what
-
-pub made : {A : Type 0} (n : ℕ) (o : Option A) (f : A → Item) (i : Item) → orNo n o f ≡ takes i → Made o f i
-made n none f i h = let z : _≡_ {A = ℕ} 0 1 = cc in absurd (omega arith)
-made n (some a) f i h = record { what = a; is = refl; gives = cc }
+use Rattle.canonical.proofs.Places.{written-good, written-eq, written-dash, keep-ok, level-ok, place-ok, stands-some, verb-ok, option-ok}
+use Rattle.text.proofs.Basics.{and-l, and-r, no-case, given-some, cond-some, map-some}
+use Rattle.terms.proofs.TermLaws.{raws-bares}
+use Rattle.reading.proofs.TakenCases.{taken-case}
 
 pub record Again (p : Phase) (help : Bool) (seen : List Bool) (count : ℕ) (i : Item) : Type 0 where
   pub again : decideIn p help seen count (writeItem i) ≡ takes i
@@ -51,51 +43,38 @@ word-in w n g = simp (n, g)
 
 -- a text that is written bare
 bare-word : (s : List ℕ) → isNil s ≡ false → allOf okWritten s ≡ true → word (bares s) ≡ true
-bare-word s n e = word-in (bares s) (bares-some s n) (written-good s e)
+bare-word s n e = word-in (bares s) (map-some bare s n) (written-good s e)
 
 -- ---- the verb
 
-verb-back : (help : Bool) (seen : List Bool) (count : ℕ) (t : List Sign) (i : Item) → decideVerb t ≡ takes i → Again First help seen count i
+verb-back : (help : Bool) (seen : List Bool) (count n : ℕ) (s : List ℕ) → verbOf s ≡ some n → Again First help seen count (verb n)
 unfolding decideVerb
-verb-back help seen count t i h =
-    let m = made 6 (verbOf (raws t)) verb i h in
-    let o = verb-ok (raws t) (m .what) (m .is) in
-    rw (m .gives) (record {
-      again = simp (raws-bares (verbName (m .what)), o .again);
-      isWord = bare-word (verbName (m .what)) (o .isSome) (o .bytesOk);
-    })
+verb-back help seen count n s p =
+    let o = verb-ok s n p in
+    record {
+      again = simp (raws-bares (verbName n), o .again);
+      isWord = bare-word (verbName n) (o .isSome) (o .bytesOk);
+    }
 
--- ---- Options
+-- ---- options
 
 dash-good : (s : List ℕ) → allOf okWritten s ≡ true → word (bare 45 ∷ bares s) ≡ true
 unfolding good
 dash-good s e = written-good s e
 
-option-made : (help : Bool) (seen : List Bool) (count n : ℕ) (s : List ℕ) → optionOf s ≡ some n → getD seen n false ≡ false → Again Options help seen count (option n)
+option-back : (help : Bool) (seen : List Bool) (count n : ℕ) (s : List ℕ) → optionOf s ≡ some n → getD seen n false ≡ false → Again Options help seen count (option n)
 unfolding decideOption raws
-option-made help seen count n s p q =
+option-back help seen count n s p q =
     let o = option-ok s n p in
     record {
       again = simp (raws-bares (optionName n), o .again, q);
       isWord = dash-good (optionName n) (o .bytesOk);
     }
 
-option-back : (help : Bool) (seen : List Bool) (count : ℕ) (t : List Sign) (i : Item) → decideOption seen t ≡ takes i → Again Options help seen count i
-unfolding decideOption
-option-back help seen count t i h = go (optionOf (drop 1 (raws t))) refl
-  where
-    new : (n : ℕ) → optionOf (drop 1 (raws t)) ≡ some n → (x : Bool) → getD seen n false ≡ x → Again Options help seen count i
-    new n p true q = let z : _≡_ {A = ℕ} 0 1 = cc (rw (p, q) at h) in absurd (omega arith)
-    new n p false q = let z : i ≡ option n = cc (rw (p, q) at h) in rw z (option-made help seen count n (drop 1 (raws t)) p q)
-
-    go : (o : Option ℕ) → optionOf (drop 1 (raws t)) ≡ o → Again Options help seen count i
-    go none p = let z : _≡_ {A = ℕ} 0 1 = cc (rw p at h) in absurd (omega arith)
-    go (some n) p = new n p (getD seen n false) refl
-
 -- ---- arguments
 
 name-dash : (n : List ℕ) (w : List Sign) → isName n ≡ true → starts 45 (bares n ++ w) ≡ false
-unfolding isName bares
+unfolding isName
 name-dash [] w e = no-case (sym e)
 name-dash (b ∷ s) w e =
     let l = letter-byte b (and-l (isLetter b) (allOf isWord s && leb (length s) 63) e) in
@@ -158,17 +137,10 @@ argument-ok Entries t a h c =
     let o = entries-ok t (g .what) (g .is) (and-r (not (isNil t)) (allOf cleanSign t) c) in
     rw z (entries-back (g .what) (o .0) (o .1))
 
-argument-back : (n : ℕ) (help : Bool) (seen : List Bool) (count : ℕ) (t : List Sign) (i : Item) → decideArgument n t ≡ takes i → cleanText t ≡ true
-    → Again (Waits n) help seen count i
+argument-back : (help : Bool) (seen : List Bool) (count n : ℕ) (t : List Sign) (a : Argument) → argumentBy (kindOf n) t ≡ some a → cleanText t ≡ true
+    → Again (Waits n) help seen count (argument n a)
 unfolding decideArgument
-argument-back n help seen count t i h k = go (starts 45 t) refl
-  where
-    go : (x : Bool) → starts 45 t ≡ x → Again (Waits n) help seen count i
-    go true p = let z : _≡_ {A = ℕ} 0 1 = cc (rw p at h) in absurd (omega arith)
-    go false p =
-        let m = made 10 (argumentBy (kindOf n) t) (argument n) i (rw p at h) in
-        let o = argument-ok (kindOf n) t (m .what) (m .is) k in
-        rw (m .gives) (record { again = rw (o .dash, o .again); isWord = o .isWord })
+argument-back help seen count n t a h k = let o = argument-ok (kindOf n) t a h k in record { again = rw (o .dash, o .again); isWord = o .isWord }
 
 -- ---- properties
 
@@ -176,87 +148,50 @@ property-dash : (p : Property) → okProperty p ≡ true → starts 45 (writePro
 unfolding okProperty writeProperty
 property-dash p k = name-dash (p .name) (writeSaid (p .said)) (and-l (isName (p .name)) (okSaid (p .said)) k)
 
-record PropertyBack (help : Bool) (count : ℕ) (t : List Sign) (i : Item) : Type 0 where
-  what : Property
-  gives : i ≡ prop what
-  ok : okProperty what ≡ true
-  again : decideProperty help count (writeProperty what) ≡ takes (prop what)
-  has : help ≡ false → hasEq t ≡ true → hasEq (writeProperty what) ≡ true
+record PropertyBack (help : Bool) (count : ℕ) (t : List Sign) (p : Property) : Type 0 where
+  ok : okProperty p ≡ true
+  again : decideProperty help count (writeProperty p) ≡ takes (prop p)
+  has : help ≡ false → hasEq t ≡ true → hasEq (writeProperty p) ≡ true
 
-topic-made : (count : ℕ) (t : List Sign) (i : Item) → leb 32 count ≡ false → (p : Property) → topicOf t ≡ some p → i ≡ prop p → PropertyBack true count t i
+property-back : (help : Bool) (count : ℕ) (t : List Sign) (p : Property) → allOf cleanSign t ≡ true → count < 32 → cond help (topicOf t) (propertyOf t) ≡ some p
+    → PropertyBack help count t p
 unfolding decideProperty
-topic-made count t i c p h g =
-    let o = topic-again p t h in
-    record { what = p; gives = g; ok = o .1; again = rw (c, o .0); has = λ f _. no-case f }
-
-said-made : (count : ℕ) (t : List Sign) (i : Item) → leb 32 count ≡ false → (p : Property) → propertyOf t ≡ some p → i ≡ prop p → allOf cleanSign t ≡ true
-    → PropertyBack false count t i
-unfolding decideProperty
-said-made count t i c p h g k =
-    let o = property-ok t p h k in
-    record { what = p; gives = g; ok = o .ok; again = rw (c, property-again p (o .ok)); has = λ _ e. o .has e }
-
-property-made : (help : Bool) (count : ℕ) (t : List Sign) (i : Item) → decideProperty help count t ≡ takes i → allOf cleanSign t ≡ true → PropertyBack help count t i
-unfolding decideProperty
-property-made help count t i h k = go (leb 32 count) refl help h
-  where
-    go : (x : Bool) → leb 32 count ≡ x → (y : Bool) → decideProperty y count t ≡ takes i → PropertyBack y count t i
-    go true p y h′ = let z : _≡_ {A = ℕ} 0 1 = cc (rw p at h′) in absurd (omega arith)
-    go false p true h′ = let m = made 13 (topicOf t) prop i (rw p at h′) in topic-made count t i p (m .what) (m .is) (m .gives)
-    go false p false h′ = let m = made 13 (propertyOf t) prop i (rw p at h′) in said-made count t i p (m .what) (m .is) (m .gives) k
+property-back true count t p k c h = let o = topic-again p t h in record { ok = o .1; again = rw (lt-leb 32 count c, o .0); has = λ f _. no-case f }
+property-back false count t p k c h = let o = property-ok t p h k in record { ok = o .ok; again = rw (lt-leb 32 count c, property-again p (o .ok)); has = λ _ e. o .has e }
 
 property-word : (p : Property) → okProperty p ≡ true → word (writeProperty p) ≡ true
 property-word p k = word-in (writeProperty p) (property-some p k) (property-good p k)
 
-rest-back : (help : Bool) (seen : List Bool) (count : ℕ) (t : List Sign) (i : Item) → decideProperty help count t ≡ takes i → allOf cleanSign t ≡ true
-    → Again Rest help seen count i
-rest-back help seen count t i h k =
-    let m = property-made help count t i h k in
-    rw (m .gives) (record { again = rw (property-dash (m .what) (m .ok)) (m .again); isWord = property-word (m .what) (m .ok) })
+rest-back : (help : Bool) (seen : List Bool) (count : ℕ) (t : List Sign) (p : Property) → PropertyBack help count t p → Again Rest help seen count (prop p)
+rest-back help seen count t p b = record { again = rw (property-dash p (b .ok)) (b .again); isWord = property-word p (b .ok) }
 
--- ---- the target, or the First property
+-- ---- the target, or the first property
 
-target-back : (seen : List Bool) (count : ℕ) (t : List Sign) (i : Item) → decideTarget t ≡ takes i → Again Options false seen count i
+target-back : (help : Bool) (seen : List Bool) (count : ℕ) (s : List ℕ) (g : Target) → help ≡ false → targetOf s ≡ some g → Again Options help seen count (target g)
 unfolding decideTarget decideAfter
-target-back seen count t i h =
-    let m = made 12 (targetOf (raws t)) target i h in
-    let o = target-ok (raws t) (m .what) (m .is) in
-    let w = writeTarget (m .what) in
-    rw (m .gives) (record {
-      again = simp (written-dash w (o .bytesOk), written-eq w (o .bytesOk), raws-bares w, o .again);
+target-back help seen count s g f h =
+    let o = target-ok s g h in
+    let w = writeTarget g in
+    record {
+      again = simp (f, written-dash w (o .bytesOk), written-eq w (o .bytesOk), raws-bares w, o .again);
       isWord = bare-word w (o .isSome) (o .bytesOk);
-    })
+    }
 
-after-back : (help : Bool) (seen : List Bool) (count : ℕ) (t : List Sign) (i : Item) → decideAfter help count t ≡ takes i → allOf cleanSign t ≡ true
-    → Again Options help seen count i
+first-back : (help : Bool) (seen : List Bool) (count : ℕ) (t : List Sign) (p : Property) → (not help && not (hasEq t)) ≡ false → PropertyBack help count t p → Again Options help seen count (prop p)
 unfolding decideAfter
-after-back true seen count t i h k =
-    let m = property-made true count t i h k in
-    rw (m .gives) (record { again = rw (property-dash (m .what) (m .ok)) (m .again); isWord = property-word (m .what) (m .ok) })
-after-back false seen count t i h k = go (hasEq t) refl
-  where
-    go : (x : Bool) → hasEq t ≡ x → Again Options false seen count i
-    go true p =
-        let m = property-made false count t i (rw p at h) k in
-        rw (m .gives) (record { again = rw (property-dash (m .what) (m .ok), m .has refl p) (m .again); isWord = property-word (m .what) (m .ok) })
-    go false p = target-back seen count t i (rw p at h)
+first-back true seen count t p n b = record { again = rw (property-dash p (b .ok)) (b .again); isWord = property-word p (b .ok) }
+first-back false seen count t p n b =
+    record { again = rw (property-dash p (b .ok), b .has refl (not-false (hasEq t) n)) (b .again); isWord = property-word p (b .ok) }
 
 -- ---- one term
 
 again-in : (p : Phase) (help : Bool) (seen : List Bool) (count : ℕ) (t : List Sign) (i : Item) → decideIn p help seen count t ≡ takes i → cleanText t ≡ true
     → Again p help seen count i
-again-in First help seen count t i h k = verb-back help seen count t i h
-again-in Options help seen count t i h k = go (starts 45 t) refl
-  where
-    go : (x : Bool) → starts 45 t ≡ x → Again Options help seen count i
-    go true p = option-back help seen count t i (rw p at h)
-    go false p = after-back help seen count t i (rw p at h) (and-r (not (isNil t)) (allOf cleanSign t) k)
-again-in (Waits n) help seen count t i h k = argument-back n help seen count t i h k
-again-in Rest help seen count t i h k = go (starts 45 t) refl
-  where
-    go : (x : Bool) → starts 45 t ≡ x → Again Rest help seen count i
-    go true p = let z : _≡_ {A = ℕ} 0 1 = cc (rw p at h) in absurd (omega arith)
-    go false p = rest-back help seen count t i (rw p at h) (and-r (not (isNil t)) (allOf cleanSign t) k)
+again-in p help seen count t i h k =
+    let c = and-r (not (isNil t)) (allOf cleanSign t) k in
+    taken-case (λ ph j. Again ph help seen count j) help seen count t (λ n e. verb-back help seen count n (raws t) e) (λ n e f. option-back help seen count n (drop 1 (raws t)) e f)
+    (λ n a d e. argument-back help seen count n t a e k) (λ g f n e. target-back help seen count (raws t) g f e)
+    (λ q n m e. first-back help seen count t q n (property-back help count t q c m e)) (λ q m e. rest-back help seen count t q (property-back help count t q c m e)) p i h
 
 one-term : (s : State) (t : List Sign) (i : Item) → decide s t ≡ takes i → cleanText t ≡ true → Back s i
 unfolding decide

@@ -1,21 +1,19 @@
 -- What follows from the read-back theorem: lines that are written the same are the same command; a longer writing reads as 1. Assumes nothing.
 use Prim.Native.Nat.{ℕ, _<_, _≤_}
-use mathlib.Core.Path.{_≡_, refl, sym, ap, _∙_}
+use mathlib.Core.Path.{_≡_, sym, ap, _∙_}
 use mathlib.Core.List.{List}
 use mathlib.Core.Option.{some}
 use lib.ListN.{length}
-use borrow.Author.Tests.{lt-ltb}
 use Rattle.text.proofs.Basics.{same-some}
-use Rattle.terms.specs.Rows.{lexicalOf, longFlaw}
 use Rattle.reading.specs.Command.{Item}
 use Rattle.reading.specs.Reading.{refusal, readingOf, commandOf}
 use Rattle.canonical.specs.Canonical.{writing}
 use Rattle.canonical.proofs.ReadBack.{read-back}
+use Rattle.reading.proofs.Folds.{long-left}
 
 -- the writing can pass 1,024 bytes; it then reads as 1
 pub long-writing : (c : List Item) → 1024 < length (writing c) → readingOf (writing c) ≡ refusal 1 1024
-unfolding readingOf lexicalOf longFlaw
-long-writing c h = rw (lt-ltb 1024 (length (writing c)) h)
+long-writing c h = long-left (writing c) h
 
 -- lines that are written the same are the same command
 pub written-same : (l m : List ℕ) (c d : List Item) → commandOf l ≡ some c → commandOf m ≡ some d → length (writing c) ≤ 1024 → writing c ≡ writing d → c ≡ d

@@ -1,38 +1,34 @@
 -- A term written by its own bytes is the canonical writing of the part that it is; and the bytes of it one step at a time, as the code writes them.
 -- Assumes nothing.
-use Prim.Native.Nat.{ℕ, zero, suc, _+_, _*_, _<_, _≤_}
+use Prim.Native.Nat.{ℕ}
 use mathlib.Core.Path.{_≡_, refl, sym, ap, _∙_}
-use mathlib.Core.List.{List, [], _∷_, _++_, map, append-assoc, append-nil}
+use mathlib.Core.List.{List, [], _∷_, _++_, map}
 use mathlib.Core.Bool.{Bool, true, false, cond, not, _&&_, _||_}
-use mathlib.Core.Option.{Option, none, some}
+use mathlib.Core.Option.{some}
 use native.Mathlib.Omega.{arith}
-use lib.ListN.{length, take, drop, getD, drop-of-length-le, length-append}
+use lib.ListN.{length, take, getD}
 use lib.Dec.{eqb, leb}
-use borrow.Author.Tests.{eqb-true, eq-eqb, ne-eqb, eqb-false}
-use Rattle.text.specs.Bytes.{bytes, oneOf, sameBytes, isWord}
-use Rattle.text.specs.Lists.{allOf, anyOf, onto, parts, each, between, isNil, given}
-use Rattle.text.proofs.Basics.{and-l, and-r, or-l, or-r, or-case, no-case, none-some, same-some, same-eq, Given, given-some, cond-some, parts-some}
-use Rattle.text.proofs.Scans.{drop-step}
-use Rattle.terms.specs.declared.Mode.{Mode}
-use Rattle.terms.specs.declared.Mode.the-variants.{Out, OutGrave, In, InGrave}
-use Rattle.terms.specs.Signs.{Sign, bare, escaped, quote, quoted, quotedEscaped, twelve, two, after, gives, atEnd, signs, raw, raws, standsFor, stands, isBare, meant}
-use Rattle.terms.proofs.TermLaws.{raws-signs}
+use borrow.Author.Tests.{eqb-true}
+use Rattle.text.specs.Bytes.{bytes, oneOf, sameBytes}
+use Rattle.text.specs.Lists.{anyOf, onto, parts, each, between, isNil}
+use Rattle.text.proofs.Basics.{or-case, no-case, none-some, same-some, same-eq, given-some, cond-some, parts-some}
+use Rattle.terms.specs.declared.Mode.the-variants.{Out, OutGrave}
+use Rattle.terms.specs.Signs.{bare, escaped, twelve, after, gives, signs, raw, raws, stands, meant, bares}
+use Rattle.terms.proofs.TermLaws.{raws-signs, raws-bares}
 use Rattle.words.specs.declared.Kind.{Kind}
 use Rattle.words.specs.declared.Kind.the-variants.{Mere, Keep, Level, Place, Entries}
-use Rattle.words.specs.Words.{verbOf, optionOf, verbName, optionName, kindOf, sessionName}
-use Rattle.forms.specs.Forms.{starts, hasEq, isKeep, isLevel, isMark, isPlace, entriesOf, Property, propertyOf, topicOf}
+use Rattle.words.specs.Words.{verbName, optionName, kindOf, sessionName}
+use Rattle.forms.specs.Forms.{starts, isKeep, isLevel, isMark, isPlace, entriesOf, Property, propertyOf, topicOf}
 use Rattle.forms.specs.Targets.{isSeparator, areSegments, Target, session, path, segmentsOf, pathOf, targetOf}
-use Rattle.reading.specs.declared.Phase.{Phase}
-use Rattle.reading.specs.declared.Phase.the-variants.{First, Options, Waits, Rest}
 use Rattle.reading.specs.declared.State.{State}
-use Rattle.reading.specs.Command.{Argument, number, text, items, argumentBy, Item, verb, option, argument, target, prop}
-use Rattle.reading.specs.Reading.{Decision, refuses, takes, orNo, notSeen, decideVerb, decideOption, decideArgument, decideTarget, decideProperty, decideAfter, decideIn, decide}
+use Rattle.reading.specs.Command.{Argument, number, text, items, argumentBy, Item}
+use Rattle.reading.specs.Reading.{takes, decide}
 use Rattle.reading.specs.Cursor.{shownOf}
-use Rattle.canonical.specs.Canonical.{bares, inQuotes, closing, writeText, writeValue, writeProperty, writeEntry, escapes, writeMore, writePlace, writeArgument, lead, writeTarget, writeItem}
-use Rattle.canonical.specs.Written.{graves, graved, gravedAll, parting, textSigns, rewriteFrom, rewritten, textIn, textsIn, isParting, textLen, leadsDash, dashGrave, placeIn, slash, slashed, argumentIn, written}
-use Rattle.canonical.proofs.Values.{raws-bares}
-use Rattle.canonical.proofs.ReadBack.{Made, made}
-use Rattle.canonical.proofs.TextWriting.{rewrite-over, entries-written, topic-written, property-written}
+use Rattle.canonical.specs.Canonical.{writeProperty, escapes, writeMore, writePlace, writeArgument, lead, writeTarget, writeItem}
+use Rattle.canonical.specs.Written.{graved, gravedAll, textsIn, leadsDash, dashGrave, placeIn, slash, slashed, argumentIn, written}
+use Rattle.canonical.proofs.TextWriting.{entries-written, topic-written, property-written}
+use Rattle.text.proofs.Classes.{other-byte}
+use Rattle.reading.proofs.TakenCases.{taken-case}
 
 -- ---- a target: `/` for each separator
 
@@ -139,8 +135,7 @@ leading (b ∷ s) p d = go (eqb b 96) (eqb b 34) refl refl s p d
     pair : (x : Bool) (c : ℕ) (s : List ℕ) → oneOf twelve c ≡ x → eqb (getD (stands (gives OutGrave c ++ signs Out s)) 0 0) 45 ≡ eqb c 45 && true
     pair true c s e = simp e (dash c (eqb c 45) refl)
     pair false c s e =
-        let n : eqb c 45 ≡ false = ne-eqb c 45 (λ z. no-case (sym dash-escapes ∙ ap (oneOf twelve) (sym z) ∙ e)) in
-        simp (e, n)
+        simp (e, other-byte (oneOf twelve) 45 c false dash-escapes e)
 
     go : (x y : Bool) → eqb b 96 ≡ x → eqb b 34 ≡ y → (s : List ℕ)
         → not (anyOf isMark (gives Out b ++ signs (after Out b) s)) ≡ true
@@ -180,77 +175,16 @@ argument-written Entries s a d h =
     let z : a ≡ items (g .what) = sym (same-some _ a (g .gives)) in
     rw z (unfold textsIn in ap raws (sym (entries-written (signs Out s) (g .what) (g .is))))
 
-module _ (s : List ℕ) (i : Item) where
-  property-part : (help : Bool) (count : ℕ) → decideProperty help count (signs Out s) ≡ takes i → raws (writeItem i) ≡ written (shownOf i) s
-  unfolding decideProperty textsIn
-  property-part help count h = go (leb 32 count) refl help h
-    where
-      go : (x : Bool) → leb 32 count ≡ x → (help : Bool) → cond (leb 32 count) (refuses 14) (orNo 13 (cond help (topicOf (signs Out s)) (propertyOf (signs Out s))) prop) ≡ takes i
-          → raws (writeItem i) ≡ written (shownOf i) s
-      go true e help k = let z : _≡_ {A = ℕ} 0 1 = cc (rw e at k) in absurd (omega arith)
-      go false e true k =
-          let m = made 13 (topicOf (signs Out s)) prop i (rw e at k) in
-          rw (m .gives) (ap raws (sym (topic-written (signs Out s) (m .what) (m .is))))
-      go false e false k =
-          let m = made 13 (propertyOf (signs Out s)) prop i (rw e at k) in
-          rw (m .gives) (ap raws (sym (property-written (signs Out s) (m .what) (m .is))))
+property-part : (help : Bool) (s : List ℕ) (p : Property) → cond help (topicOf (signs Out s)) (propertyOf (signs Out s)) ≡ some p → raws (writeProperty p) ≡ textsIn s
+unfolding textsIn
+property-part true s p h = ap raws (sym (topic-written (signs Out s) p h))
+property-part false s p h = ap raws (sym (property-written (signs Out s) p h))
 
-  target-part : decideTarget (signs Out s) ≡ takes i → raws (writeItem i) ≡ written (shownOf i) s
-  unfolding decideTarget
-  target-part h =
-      let m = made 12 (targetOf (raws (signs Out s))) target i h in
-      let t = ap targetOf (sym (raws-signs s)) ∙ m .is in
-      rw (m .gives) (raws-bares (writeTarget (m .what)) ∙ target-written s (m .what) t)
-
-  after-part : (help : Bool) (count : ℕ) → decideAfter help count (signs Out s) ≡ takes i → raws (writeItem i) ≡ written (shownOf i) s
-  unfolding decideAfter
-  after-part help count h = go (not help && not (hasEq (signs Out s))) refl
-    where
-      go : (x : Bool) → not help && not (hasEq (signs Out s)) ≡ x → raws (writeItem i) ≡ written (shownOf i) s
-      go true e = target-part (rw e at h)
-      go false e = property-part help count (rw e at h)
-
-  option-part : (seen : List Bool) → decideOption seen (signs Out s) ≡ takes i → raws (writeItem i) ≡ written (shownOf i) s
-  unfolding decideOption
-  option-part seen h = go (optionOf (drop 1 (raws (signs Out s)))) h
-    where
-      new : (n : ℕ) (x : Bool) → cond x (refuses 8) (takes (option n)) ≡ takes i → raws (writeItem i) ≡ written (shownOf i) s
-      new n true k = let z : _≡_ {A = ℕ} 0 1 = cc in absurd (omega arith)
-      new n false k = let z : i ≡ option n = cc in rw z (unfold raws in ap (λ (y : List ℕ). 45 ∷ y) (raws-bares (optionName n)))
-
-      go : (o : Option ℕ) → notSeen seen o ≡ takes i → raws (writeItem i) ≡ written (shownOf i) s
-      go none k = let z : _≡_ {A = ℕ} 0 1 = cc in absurd (omega arith)
-      go (some n) k = new n (getD seen n false) k
-
-  argument-part : (n : ℕ) → decideArgument n (signs Out s) ≡ takes i → raws (writeItem i) ≡ written (shownOf i) s
-  unfolding decideArgument
-  argument-part n h = go (starts 45 (signs Out s)) refl
-    where
-      go : (x : Bool) → starts 45 (signs Out s) ≡ x → raws (writeItem i) ≡ written (shownOf i) s
-      go true e = let z : _≡_ {A = ℕ} 0 1 = cc (rw e at h) in absurd (omega arith)
-      go false e =
-          let m = made 10 (argumentBy (kindOf n) (signs Out s)) (argument n) i (rw e at h) in
-          rw (m .gives) (argument-written (kindOf n) s (m .what) e (m .is))
-
-  verb-part : decideVerb (signs Out s) ≡ takes i → raws (writeItem i) ≡ written (shownOf i) s
-  unfolding decideVerb
-  verb-part h = let m = made 6 (verbOf (raws (signs Out s))) verb i h in rw (m .gives) (raws-bares (verbName (m .what)))
-
-  in-part : (p : Phase) (help : Bool) (seen : List Bool) (count : ℕ) → decideIn p help seen count (signs Out s) ≡ takes i → raws (writeItem i) ≡ written (shownOf i) s
-  in-part First help seen count h = verb-part h
-  in-part Options help seen count h = go (starts 45 (signs Out s)) refl
-    where
-      go : (x : Bool) → starts 45 (signs Out s) ≡ x → raws (writeItem i) ≡ written (shownOf i) s
-      go true e = option-part seen (rw e at h)
-      go false e = after-part help count (rw e at h)
-  in-part (Waits n) help seen count h = argument-part n h
-  in-part Rest help seen count h = go (starts 45 (signs Out s)) refl
-    where
-      go : (x : Bool) → starts 45 (signs Out s) ≡ x → raws (writeItem i) ≡ written (shownOf i) s
-      go true e = let z : _≡_ {A = ℕ} 0 1 = cc (rw e at h) in absurd (omega arith)
-      go false e = property-part help count (rw e at h)
-
-  -- whatever part a term is taken as, its bytes are written as that part is
-  pub term-written : (t : State) → decide t (signs Out s) ≡ takes i → raws (writeItem i) ≡ written (shownOf i) s
-  unfolding decide
-  term-written t h = in-part (t .phase) (t .help) (t .seen) (t .count) h
+-- whatever part a term is taken as, its bytes are written as that part is
+pub term-written : (s : List ℕ) (i : Item) (t : State) → decide t (signs Out s) ≡ takes i → raws (writeItem i) ≡ written (shownOf i) s
+unfolding decide raws
+term-written s i t h =
+    taken-case (λ ph j. raws (writeItem j) ≡ written (shownOf j) s) (t .help) (t .seen) (t .count) (signs Out s) (λ n e. raws-bares (verbName n))
+    (λ n e f. ap (λ (y : List ℕ). 45 ∷ y) (raws-bares (optionName n))) (λ n a d e. argument-written (kindOf n) s a d e)
+    (λ g f n e. raws-bares (writeTarget g) ∙ target-written s g (ap targetOf (sym (raws-signs s)) ∙ e)) (λ p n c e. property-part (t .help) s p e) (λ p c e. property-part (t .help) s p e)
+    (t .phase) i h

@@ -1,22 +1,26 @@
 -- The texts of a term, rewritten one by one with what parts them, are the canonical writing of the value, the property, or the items that the term is.
 -- Assumes nothing.
-use Prim.Native.Nat.{ℕ, zero, suc, _+_, _<_, _≤_}
+use Prim.Native.Nat.{ℕ}
 use mathlib.Core.Path.{_≡_, refl, sym, ap, _∙_}
 use mathlib.Core.List.{List, [], _∷_, _++_, map, append-assoc, append-nil}
-use mathlib.Core.Bool.{Bool, true, false, cond, not, _&&_, _||_}
-use mathlib.Core.Option.{Option, none, some}
+use mathlib.Core.Bool.{Bool, true, false, cond, not, _&&_}
+use mathlib.Core.Option.{none, some}
 use native.Mathlib.Omega.{arith}
 use lib.ListN.{length, drop}
 use lib.Dec.{eqb, leb}
-use borrow.Author.Tests.{eqb-true, ne-eqb, not-true}
+use borrow.Author.Tests.{ne-eqb, not-true}
 use Rattle.text.specs.Bytes.{bytes, oneOf, isWord}
-use Rattle.text.specs.Lists.{allOf, anyOf, upTo, past, onto, parts, each, between, isNil, given, every}
-use Rattle.text.proofs.Basics.{and-l, and-r, or-l, or-r, no-case, none-some, same-some, Given, given-some, cond-some, parts-some, between-parts, any-append}
-use Rattle.terms.specs.Signs.{Sign, bare, escaped, quote, quoted, quotedEscaped, raw, raws, standsFor, stands, isBare}
+use Rattle.text.specs.Lists.{allOf, anyOf, upTo, past, onto, each, between, isNil, given, every}
+use Rattle.text.proofs.Basics.{and-l, and-r, or-l, or-r, no-case, same-some, given-some, cond-some, parts-some, between-parts, all-none, nil-is}
+use Rattle.terms.specs.Signs.{Sign, bare, escaped, quote, quoted, quotedEscaped, raws, stands, isBare, bares}
 use Rattle.forms.specs.Forms.{starts, hasEq, isName, isPlainSign, endsQuote, isText, Value, one, many, itemsIn, isList, listOf, textOf, valueOf, Entry, entry, entryOf, entryParts, entriesOf, Said, alone, equals, matches, saidOf, Property, property, propertyOf, topicOf}
-use Rattle.canonical.specs.Canonical.{bares, writeText, writeTexts, writeValue, writeOptional, writeEntry, writeSaid, writeProperty}
+use Rattle.canonical.specs.Canonical.{writeText, writeTexts, writeValue, writeOptional, writeEntry, writeSaid, writeProperty}
 use Rattle.canonical.specs.Written.{parting, textSigns, rewriteFrom, rewritten}
-use Rattle.canonical.proofs.Values.{WordByte, word-byte, name-words}
+use Rattle.canonical.proofs.Values.{word-byte}
+use Rattle.terms.proofs.TermLaws.{bare-is, bare-split}
+use Rattle.forms.proofs.PropertyLaws.{name-words}
+use Rattle.forms.proofs.EntryLaws.{entry-parts-some}
+use Rattle.text.proofs.Classes.{other-byte}
 
 -- ---- rewriting: a text that nothing parts, and what parts it from the next
 
@@ -71,21 +75,16 @@ equal-parts = refl
 plain-one : (x : Sign) → isPlainSign x ≡ true → parting x ≡ false
 unfolding isPlainSign parting oneOf bytes
 plain-one (bare b) h =
-    let a = not-true (oneOf (bytes "\",()=") b) h in
-    let b1 = or-r (eqb b 34) (eqb b 44 || (eqb b 40 || (eqb b 41 || (eqb b 61 || false)))) a in
-    let b2 = or-r (eqb b 44) (eqb b 40 || (eqb b 41 || (eqb b 61 || false))) b1 in
-    let b3 = or-r (eqb b 40) (eqb b 41 || (eqb b 61 || false)) b2 in
-    let b4 = or-r (eqb b 41) (eqb b 61 || false) b3 in
-    simp (or-l (eqb b 40) (eqb b 41 || (eqb b 61 || false)) b2, or-l (eqb b 41) (eqb b 61 || false) b3, or-l (eqb b 44) (eqb b 40 || (eqb b 41 || (eqb b 61 || false))) b1, or-l (eqb b 61) false b4)
+    let five = oneOf (bytes "\",()=") in
+    let other : (k : ℕ) → five k ≡ true → eqb b k ≡ false = λ k e. other-byte five k b false e (not-true (five b) h) in
+    simp (other 40 refl, other 41 refl, other 44 refl, other 61 refl)
 plain-one (escaped b) h = refl
 plain-one quote h = refl
 plain-one (quoted b) h = refl
 plain-one (quotedEscaped b) h = refl
 
 plain-all : (t : List Sign) → allOf isPlainSign t ≡ true → anyOf parting t ≡ false
-unfolding allOf anyOf
-plain-all [] h = refl
-plain-all (x ∷ t) h = simp (plain-one x (and-l (isPlainSign x) (allOf isPlainSign t) h), plain-all t (and-r (isPlainSign x) (allOf isPlainSign t) h))
+plain-all t h = all-none isPlainSign parting plain-one t h
 
 quote-all : (t : List Sign) → endsQuote t ≡ true → anyOf parting t ≡ false
 unfolding endsQuote anyOf parting
@@ -129,28 +128,6 @@ texts-write a (w ∷ ws) r h k p =
     ∙ ap (λ (z : List Sign). bare 44 ∷ z) (texts-write w ws r (and-l (isText w) (allOf isText ws) k) (and-r (isText w) (allOf isText ws) k) p))
     ∙ sym (append-assoc (writeText (stands a)) (bare 44 ∷ (writeText (stands w) ++ done)) (rewritten r))
 
-pub bare-is : (k : ℕ) (x : Sign) → isBare k x ≡ true → x ≡ bare k
-bare-is k (bare b) h = ap bare (eqb-true b k h)
-bare-is k (escaped b) h = cc
-bare-is k quote h = cc
-bare-is k (quoted b) h = cc
-bare-is k (quotedEscaped b) h = cc
-
--- a text that has what parts is what stands before the first such, it, and what stands after it
-pub split-at : (k : ℕ) (t : List Sign) → anyOf (isBare k) t ≡ true → t ≡ upTo (isBare k) t ++ (bare k ∷ past (isBare k) t)
-unfolding anyOf upTo past
-split-at k [] h = cc
-split-at k (x ∷ t) h = go (isBare k x) refl (split-at k t)
-  where
-    go : (b : Bool) → isBare k x ≡ b → (anyOf (isBare k) t ≡ true → t ≡ upTo (isBare k) t ++ (bare k ∷ past (isBare k) t))
-        → x ∷ t ≡ upTo (isBare k) (x ∷ t) ++ (bare k ∷ past (isBare k) (x ∷ t))
-    go true e ih = rw e (ap (λ (z : Sign). z ∷ t) (bare-is k x e))
-    go false e ih = rw e (ap (λ (z : List Sign). x ∷ z) (ih (rw e at h)))
-
-nil-is : {A : Type 0} (t : List A) → isNil t ≡ true → t ≡ []
-nil-is [] h = refl
-nil-is (x ∷ t) h = cc
-
 list-writes : (t r : List Sign) → isList t ≡ true
     → rewritten (t ++ r) ≡ (between (bare 44) (writeTexts (map stands (itemsIn t))) ++ (bare 41 ∷ [])) ++ rewritten r
 unfolding isList itemsIn allOf between writeTexts
@@ -173,7 +150,7 @@ list-writes t r h =
         (and-r (isNil (past (isBare 41) t)) (allOf isText (itemsIn t) && leb (length (itemsIn t)) 16) (and-r (anyOf (isBare 41) t) after h))
 
     split : t ≡ upTo (isBare 41) t ++ (bare 41 ∷ [])
-    split = split-at 41 t has ∙ ap (λ (z : List Sign). upTo (isBare 41) t ++ (bare 41 ∷ z)) nothing
+    split = bare-split 41 t has ∙ ap (λ (z : List Sign). upTo (isBare 41) t ++ (bare 41 ∷ z)) nothing
 
     go : (ws : List (List Sign)) → isNil ws ≡ false → allOf isText ws ≡ true → upTo (isBare 41) t ≡ between (bare 44) ws
         → rewritten (t ++ r) ≡ (between (bare 44) (writeTexts (map stands ws)) ++ (bare 41 ∷ [])) ++ rewritten r
@@ -258,7 +235,7 @@ entry-writes t r e h p = go (hasEq t) refl
         let g = given-some (valueOf (past (isBare 61) t)) (λ v. some (entry n (some v))) e (c .1) in
         let z : e ≡ entry n (some (g .what)) = sym (same-some _ e (g .gives)) in
         rw z
-        (ap (λ (y : List Sign). rewritten (y ++ r)) (split-at 61 t q)
+        (ap (λ (y : List Sign). rewritten (y ++ r)) (bare-split 61 t q)
         ∙ ap rewritten (append-assoc (upTo (isBare 61) t) (bare 61 ∷ past (isBare 61) t) r)
         ∙ name-writes (upTo (isBare 61) t) (bare 61 ∷ (past (isBare 61) t ++ r)) (c .0) equal-parts
         ∙ ap (λ (y : List Sign). bares n ++ y) (parted (bare 61) (past (isBare 61) t ++ r) equal-parts
@@ -289,16 +266,6 @@ onto-between : (x : Sign) (ps : List (List Sign)) → isNil ps ≡ false → bet
 unfolding between
 onto-between x [] h = no-case h
 onto-between x (p ∷ ps) h = refl
-
-entry-parts-some : (l : Bool) (t : List Sign) → isNil (entryParts l t) ≡ false
-unfolding entryParts
-entry-parts-some l [] = refl
-entry-parts-some l (x ∷ t) = go (not l && isBare 44 x) (entryParts (cond (isBare 40 x) true (cond (isBare 41 x) false l)) t)
-  where
-    go : (b : Bool) (ps : List (List Sign)) → isNil (cond b ([] ∷ ps) (onto x ps)) ≡ false
-    go true ps = refl
-    go false [] = refl
-    go false (p ∷ ps) = refl
 
 entry-parts-between : (l : Bool) (t : List Sign) → between (bare 44) (entryParts l t) ≡ t
 unfolding entryParts between each
@@ -373,7 +340,7 @@ property-written t p h = go (hasEq t) refl
         let g = given-some (saidOf (past (isBare 61) t)) (λ s. some (property n s)) p (c .1) in
         let z : p ≡ property n (g .what) = sym (same-some _ p (g .gives)) in
         rw z
-        (ap rewritten (split-at 61 t q)
+        (ap rewritten (bare-split 61 t q)
         ∙ name-writes (upTo (isBare 61) t) (bare 61 ∷ past (isBare 61) t) (c .0) equal-parts
         ∙ ap (λ (y : List Sign). bares n ++ y) (parted (bare 61) (past (isBare 61) t) equal-parts ∙ said-writes (past (isBare 61) t) (g .what) (g .is)))
     go false q =

@@ -1,23 +1,24 @@
 -- Written names, texts and values. Assumes nothing.
-use Prim.Native.Nat.{ℕ, zero, suc, _+_, _-_, _<_, _≤_}
-use mathlib.Core.Path.{_≡_, refl, sym, ap, _∙_, subst}
-use mathlib.Core.List.{List, [], _∷_, _++_, map, append-assoc, append-nil}
-use mathlib.Core.Bool.{Bool, true, false, cond, not, _&&_, _||_}
-use mathlib.Core.Option.{Option, none, some}
+use Prim.Native.Nat.{ℕ, suc, _<_, _≤_}
+use mathlib.Core.Path.{_≡_, refl, sym, ap, _∙_}
+use mathlib.Core.List.{List, [], _∷_, _++_, map, append-assoc}
+use mathlib.Core.Bool.{Bool, true, false, not, _&&_, _||_}
+use mathlib.Core.Option.{some}
 use native.Mathlib.Omega.{arith}
-use lib.ListN.{length, drop, length-append, length-map}
-use lib.Dec.{eqb, leb, ltb}
-use borrow.Author.Tests.{eqb-true, eqb-false, eq-eqb, ne-eqb, le-leb, lt-leb, leb-true, leb-false, not-true}
-use Rattle.canonical.specs.Canonical.{bares, closing, inQuotes, writeText, writeTexts, writeValue}
-use Rattle.forms.specs.Forms.{Value, endsQuote, isList, isName, isPlainSign, isText, itemsIn, listOf, many, one, starts, textOf, valueOf}
-use Rattle.terms.specs.Signs.{Sign, bare, escaped, isBare, quote, quoted, quotedEscaped, raw, raws, stands, standsFor, twelve, two}
-use Rattle.terms.specs.Terms.{isGap}
+use lib.ListN.{length, drop, length-map}
+use lib.Dec.{eqb, leb}
+use borrow.Author.Tests.{eqb-true, ne-eqb, le-leb, leb-true, not-true}
+use Rattle.canonical.specs.Canonical.{closing, inQuotes, writeText, writeTexts, writeValue}
+use Rattle.forms.specs.Forms.{Value, endsQuote, isList, isPlainSign, isText, itemsIn, listOf, many, one, starts, textOf, valueOf}
+use Rattle.terms.specs.Signs.{Sign, bare, isBare, quote, stands, standsFor, two, bares}
 use Rattle.text.specs.Bytes.{bytes, isDigit, isLetter, isWord, oneOf, printable}
-use Rattle.text.specs.Lists.{allOf, anyOf, between, each, given, isNil, onto, parts, past, upTo}
-use Rattle.text.proofs.Basics.{and-l, and-r, and-in, or-l, or-r, either, no-case, all-append, all-up, all-past, parts-all, parts-between, up-at, past-at, any-at, any-append, or-case, all-mono, any-each, any-between, parts-some}
-use Rattle.canonical.proofs.Lexing.{okBare, okQuoted, okSign, turn, good}
+use Rattle.text.specs.Lists.{allOf, anyOf, between, each, isNil, parts, past, upTo}
+use Rattle.text.proofs.Basics.{and-l, and-r, or-l, no-case, all-append, all-up, parts-all, parts-between, up-at, past-at, any-at, or-case, all-mono, any-between, parts-some, map-some, all-drop}
+use Rattle.canonical.proofs.Lexing.{okBare, okSign, good}
 use Rattle.canonical.proofs.Frame.{cleanSign}
 use Rattle.text.proofs.Classes.{within-low, within-high}
+use Rattle.terms.specs.RowWords.{turns}
+use Rattle.terms.proofs.TermLaws.{stands-bares, none-bares}
 
 -- ---- classes of bytes
 
@@ -66,47 +67,12 @@ byte-ok b w =
 pub word-ok : (b : ℕ) → isWord b ≡ true → okBare b ≡ true
 word-ok b e = byte-ok b (word-byte b e)
 
--- ---- tests over lists
-
 -- ---- bare bytes
 
 pub good-bares : (s : List ℕ) (w : List Sign) → allOf okBare s ≡ true → good false (bares s ++ w) ≡ good false w
-unfolding allOf bares good
+unfolding allOf good
 good-bares [] w e = refl
 good-bares (b ∷ s) w e = simp (and-l (okBare b) (allOf okBare s) e, good-bares s w (and-r (okBare b) (allOf okBare s) e))
-
-pub raws-bares : (s : List ℕ) → raws (bares s) ≡ s
-unfolding raws bares
-raws-bares [] = refl
-raws-bares (b ∷ s) = ap (λ z. b ∷ z) (raws-bares s)
-
-pub stands-bares : (s : List ℕ) → stands (bares s) ≡ s
-unfolding stands bares
-stands-bares [] = refl
-stands-bares (b ∷ s) = ap (λ z. b ∷ z) (stands-bares s)
-
-pub none-bares : (k : ℕ) (s : List ℕ) → allOf (λ b. not (eqb b k)) s ≡ true → anyOf (isBare k) (bares s) ≡ false
-unfolding anyOf bares allOf
-none-bares k [] e = refl
-none-bares k (b ∷ s) e =
-    simp (not-true (eqb b k) (and-l (not (eqb b k)) (allOf (λ x. not (eqb x k)) s) e), none-bares k s (and-r (not (eqb b k)) (allOf (λ x. not (eqb x k)) s) e))
-
--- a byte that is no word byte stands in no word
-pub not-word : (k : ℕ) → isWord k ≡ false → (b : ℕ) → isWord b ≡ true → not (eqb b k) ≡ true
-not-word k n b e = simp (ne-eqb b k (λ z. no-case (sym (sym n ∙ ap isWord (sym z) ∙ e))))
-
-pub none-words : (k : ℕ) → isWord k ≡ false → (s : List ℕ) → allOf isWord s ≡ true → anyOf (isBare k) (bares s) ≡ false
-none-words k n s e = none-bares k s (all-mono isWord (λ b. not (eqb b k)) (not-word k n) s e)
-
--- ---- names
-
-pub name-words : (s : List ℕ) → isName s ≡ true → allOf isWord s ≡ true
-unfolding isName allOf isWord
-name-words [] e = refl
-name-words (b ∷ s) e =
-    let l = and-l (isLetter b) (allOf isWord s && leb (length s) 63) e in
-    let r = and-l (allOf isWord s) (leb (length s) 63) (and-r (isLetter b) (allOf isWord s && leb (length s) 63) e) in
-    simp (l, r)
 
 -- ---- texts
 
@@ -120,11 +86,11 @@ quoted-ok b e = go (eqb b 96) (eqb b 34) refl refl
     go false true p q = simp (p, q, e)
     go false false p q = simp (p, q, e)
 
-quoted-stays : (b : ℕ) → turn true (inQuotes b) ≡ true
+quoted-stays : (b : ℕ) → turns true (inQuotes b) ≡ true
 unfolding inQuotes
 quoted-stays b = go (oneOf two b) refl
   where
-    go : (x : Bool) → oneOf two b ≡ x → turn true (inQuotes b) ≡ true
+    go : (x : Bool) → oneOf two b ≡ x → turns true (inQuotes b) ≡ true
     go true p = rw p
     go false p = rw p
 
@@ -194,14 +160,14 @@ word-plain b e =
     simp (ne-eqb b 34 (λ z. omega arith), ne-eqb b 44 (λ z. omega arith), ne-eqb b 40 (λ z. omega arith), ne-eqb b 41 (λ z. omega arith), ne-eqb b 61 (w .noEq))
 
 plain-bares : (s : List ℕ) → allOf isWord s ≡ true → allOf isPlainSign (bares s) ≡ true
-unfolding allOf bares
+unfolding allOf
 plain-bares [] e = refl
 plain-bares (b ∷ s) e = simp (word-plain b (and-l (isWord b) (allOf isWord s) e), plain-bares s (and-r (isWord b) (allOf isWord s) e))
 
 bares-text : (s : List ℕ) → isNil s ≡ false → allOf isWord s ≡ true → isText (bares s) ≡ true
-unfolding isText bares
+unfolding isText
 bares-text [] n e = no-case n
-bares-text (b ∷ s) n e = unfold bares in plain-bares (b ∷ s) e
+bares-text (b ∷ s) n e = plain-bares (b ∷ s) e
 
 pub text-is : (s : List ℕ) → isText (writeText s) ≡ true
 unfolding isText
@@ -214,7 +180,7 @@ text-stands s = text-case (λ z. stands z ≡ s) s (λ n e. stands-bares s) (clo
 -- no byte but letters, digits and underscores stands in it bare
 pub text-none : (k : ℕ) → isWord k ≡ false → (s : List ℕ) → anyOf (isBare k) (writeText s) ≡ false
 unfolding anyOf
-text-none k n s = text-case (λ z. anyOf (isBare k) z ≡ false) s (λ _ e. none-words k n s e) (closing-none k s)
+text-none k n s = text-case (λ z. anyOf (isBare k) z ≡ false) s (λ _ e. none-bares isWord k n s e) (closing-none k s)
 
 pub starts-none : (k : ℕ) (t : List Sign) → anyOf (isBare k) t ≡ false → starts k t ≡ false
 unfolding anyOf
@@ -222,12 +188,7 @@ starts-none k [] e = refl
 starts-none k (x ∷ t) e = or-l (isBare k x) (anyOf (isBare k) t) e
 
 pub text-some : (s : List ℕ) → isNil (writeText s) ≡ false
-unfolding bares
-text-some s = text-case (λ z. isNil z ≡ false) s (some-bares s) refl
-  where
-    some-bares : (s : List ℕ) → isNil s ≡ false → allOf isWord s ≡ true → isNil (bares s) ≡ false
-    some-bares [] n e = n
-    some-bares (b ∷ s) n e = refl
+text-some s = text-case (λ z. isNil z ≡ false) s (λ n e. map-some bare s n) refl
 
 -- ---- values
 
@@ -251,24 +212,24 @@ unfolding writeTexts
 texts-length [] = refl
 texts-length (s ∷ ss) = ap suc (texts-length ss)
 
-texts-none : (k : ℕ) → isWord k ≡ false → (ss : List (List ℕ)) → allOf (λ w. not (anyOf (isBare k) w)) (writeTexts ss) ≡ true
+pub texts-none : (k : ℕ) → isWord k ≡ false → (ss : List (List ℕ)) → allOf (λ w. not (anyOf (isBare k) w)) (writeTexts ss) ≡ true
 unfolding allOf writeTexts
 texts-none k n [] = refl
 texts-none k n (s ∷ ss) = simp (text-none k n s, texts-none k n ss)
 
-no-word-41 : isWord 41 ≡ false
+pub no-word-41 : isWord 41 ≡ false
 unfolding isWord
 no-word-41 = refl
 
-no-word-44 : isWord 44 ≡ false
+pub no-word-44 : isWord 44 ≡ false
 unfolding isWord
 no-word-44 = refl
 
-no-word-40 : isWord 40 ≡ false
+pub no-word-40 : isWord 40 ≡ false
 unfolding isWord
 no-word-40 = refl
 
-no-word-61 : isWord 61 ≡ false
+pub no-word-61 : isWord 61 ≡ false
 unfolding isWord
 no-word-61 = refl
 
@@ -342,10 +303,6 @@ stands-all [] e = refl
 stands-all (t ∷ ts) e =
     simp (stands-clean t (and-l (allOf cleanSign t) (allOf (allOf cleanSign) ts) e), stands-all ts (and-r (allOf cleanSign t) (allOf (allOf cleanSign) ts) e))
 
-map-some : {A B : Type 0} (f : A → B) (a : List A) → isNil a ≡ false → isNil (map f a) ≡ false
-map-some f [] e = e
-map-some f (x ∷ a) e = refl
-
 list-ok : (t : List Sign) (v : Value) → listOf t ≡ some v → allOf cleanSign t ≡ true → okValue v ≡ true
 unfolding listOf isList okValue
 list-ok t v h e = go (isList t) refl
@@ -364,11 +321,6 @@ list-ok t v h e = go (isList t) refl
         rw z (simp (s, l, r, a))
     go false p = let z : _≡_ {A = ℕ} 0 1 = cc (rw p at h) in absurd (omega arith)
 
-pub drop-clean : (t : List Sign) → allOf cleanSign t ≡ true → allOf cleanSign (drop 1 t) ≡ true
-unfolding allOf
-drop-clean [] e = refl
-drop-clean (x ∷ t) e = and-r (cleanSign x) (allOf cleanSign t) e
-
 text-ok : (t : List Sign) (v : Value) → textOf t ≡ some v → allOf cleanSign t ≡ true → okValue v ≡ true
 unfolding textOf okValue
 text-ok t v h e = go (isText t) refl
@@ -382,5 +334,5 @@ unfolding valueOf
 value-ok t v h e = go (starts 40 t) refl
   where
     go : (x : Bool) → starts 40 t ≡ x → okValue v ≡ true
-    go true p = list-ok (drop 1 t) v (rw p at h) (drop-clean t e)
+    go true p = list-ok (drop 1 t) v (rw p at h) (all-drop cleanSign 1 t e)
     go false p = text-ok t v (rw p at h) e

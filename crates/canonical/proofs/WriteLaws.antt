@@ -1,35 +1,34 @@
 -- What the writers write, one step at a time, by bytes. Assumes nothing.
-use Prim.Native.Nat.{ℕ, zero, suc, _+_, _-_, _*_, _<_, _≤_}
+use Prim.Native.Nat.{ℕ, suc, _+_, _-_, _<_, _≤_}
 use mathlib.Core.Path.{_≡_, refl, sym, ap, _∙_}
-use mathlib.Core.List.{List, [], _∷_, _++_, map, append-assoc, append-nil}
-use mathlib.Core.Bool.{Bool, true, false, cond, not, _&&_, _||_}
+use mathlib.Core.List.{List, [], _∷_, _++_, append-assoc, append-nil}
+use mathlib.Core.Bool.{Bool, true, false, cond, _&&_, _||_, and-false, or-false}
 use native.Mathlib.Omega.{arith}
 use native.Mathlib.Numerals.{add-one}
 use lib.ListN.{length, take, drop, getD, set, drop-of-length-le, length-append, length-drop}
 use lib.Seq.{sets, drop-drop}
-use lib.Dec.{eqb, leb}
-use borrow.Author.Tests.{eqb-true, eq-eqb, ne-eqb, leb-true}
+use lib.Dec.{eqb}
+use borrow.Author.Tests.{eq-eqb, ne-eqb}
 use Rattle.text.specs.Bytes.{bytes, oneOf, sameBytes, isWord}
-use Rattle.text.specs.Lists.{allOf, anyOf, each, between, isNil, runLen}
-use Rattle.text.proofs.Basics.{and-l, and-r, or-l, or-r, either, no-case}
+use Rattle.text.specs.Lists.{allOf, anyOf, runLen}
+use Rattle.text.proofs.Basics.{either, no-case}
 use Rattle.text.proofs.Scans.{drop-step, run-all, all-run}
-use Rattle.text.proofs.Writes.{sets-append}
+use Rattle.text.proofs.Writes.{sets-append, sets-rest}
 use Rattle.terms.specs.declared.Mode.{Mode}
 use Rattle.terms.specs.declared.Mode.the-variants.{Out, OutGrave, In, InGrave}
-use Rattle.terms.specs.Signs.{Sign, bare, escaped, quote, quoted, quotedEscaped, twelve, two, after, gives, atEnd, signs, raw, raws, stands, isBare, meant}
-use Rattle.terms.proofs.TermLaws.{raws-signs}
-use Rattle.words.specs.Words.{verbNames, longNames, verbName, optionName}
-use Rattle.canonical.specs.Canonical.{bares, inQuotes, closing, writeText}
+use Rattle.terms.specs.Signs.{Sign, bare, quoted, quotedEscaped, twelve, two, after, gives, atEnd, signs, raw, raws, stands, meant}
+use Rattle.terms.proofs.TermLaws.{raws-signs, raws-bares, raws-append}
+use Rattle.canonical.specs.Canonical.{inQuotes, closing, writeText}
 use Rattle.canonical.specs.Written.{graves, graved, gravedAll, quotes, isPlain, parting, textSigns, rewriteFrom, rewritten, textIn, textsIn, isParting, textLen, leadsDash, slash, slashed}
-use Rattle.canonical.proofs.Values.{raws-bares}
-use Rattle.canonical.proofs.Frame.{raws-append}
 use Rattle.canonical.proofs.TextWriting.{rewrite-over}
+use Rattle.terms.proofs.ByteCases.{gives-case}
+use Rattle.forms.proofs.TextLaws.{no-comma, no-open, no-close, no-equal}
 
 -- ---- stores
 
 -- what is left to write after a, where all of it gives t
 pub then-left : (o o′ a r t : List ℕ) (w w′ : ℕ) → sets o w (a ++ r) ≡ t → o′ ≡ sets o w a → w′ ≡ w + length a → sets o′ w′ r ≡ t
-then-left o o′ a r t w w′ h e p = rw (e, p) (sets-append a r o w ∙ h)
+then-left o o′ a r t w w′ h e p = sets-rest o a o′ w w′ e p r ∙ h
 
 pub left-length : (a r : List ℕ) (w w′ n : ℕ) → w + length (a ++ r) ≡ n → w′ ≡ w + length a → w′ + length r ≡ n
 left-length a r w w′ n h p = omega (arith, length-append a r)
@@ -45,10 +44,6 @@ three-sets o o₁ o₂ o₃ s at w x y e f p g = rw (g, f, p, e, add-one) (sets-
 -- a text after a byte
 pub after-set : (o o₁ o₂ s : List ℕ) (at x : ℕ) → o₁ ≡ set o at x → o₂ ≡ sets o₁ (at + 1) s → o₂ ≡ sets o at (x ∷ s)
 after-set o o₁ o₂ s at x e f = rw (f, e, add-one)
-
--- a text after a text
-pub after-sets : (o o₁ o₂ a s : List ℕ) (at w : ℕ) → o₁ ≡ sets o at a → w ≡ at + length a → o₂ ≡ sets o₁ w s → o₂ ≡ sets o at (a ++ s)
-after-sets o o₁ o₂ a s at w e p f = rw (f, e, p) (sets-append a s o at)
 
 -- ---- bytes with GRAVEs
 
@@ -172,18 +167,9 @@ end-solid In = refl
 end-solid InGrave = refl
 
 -- GRAVE escapes each byte that parts
-other : (xs : List ℕ) (b k : ℕ) → oneOf xs b ≡ false → oneOf xs k ≡ true → eqb b k ≡ false
-other xs b k e h = ne-eqb b k (λ z. no-case (sym h ∙ ap (oneOf xs) (sym z) ∙ e))
-
 grave-solid : (b : ℕ) → oneOf twelve b ≡ false → parting (bare b) ≡ false
 unfolding parting
-grave-solid b e =
-    simp (
-      other twelve b 40 e (unfold oneOf twelve bytes in refl),
-      other twelve b 41 e (unfold oneOf twelve bytes in refl),
-      other twelve b 44 e (unfold oneOf twelve bytes in refl),
-      other twelve b 61 e (unfold oneOf twelve bytes in refl),
-    )
+grave-solid b e = simp (no-open b e, no-close b e, no-comma b e, no-equal b e)
 
 grave-bare : parting (bare 96) ≡ false
 unfolding parting
@@ -191,36 +177,14 @@ grave-bare = refl
 
 bare-parting : (b : ℕ) → parting (bare b) ≡ isParting Out b
 unfolding parting oneOf bytes
-bare-parting b = go (eqb b 61)
-  where
-    go : (x : Bool) → eqb b 40 || (eqb b 41 || (eqb b 44 || x)) ≡ eqb b 40 || (eqb b 41 || (eqb b 44 || (x || false)))
-    go true = refl
-    go false = refl
+bare-parting b = ap (λ (x : Bool). eqb b 40 || (eqb b 41 || (eqb b 44 || x))) (sym (or-false (eqb b 61)))
 
 byte-solid : (m : Mode) (b : ℕ) → isParting m b ≡ false → anyOf parting (gives m b) ≡ false
-unfolding gives anyOf
-byte-solid Out b e = go (eqb b 96) (eqb b 34)
-  where
-    go : (x y : Bool) → anyOf parting (cond x [] (cond y (quote ∷ []) (bare b ∷ []))) ≡ false
-    go true y = refl
-    go false true = unfold parting in refl
-    go false false = simp (bare-parting b, e)
-byte-solid OutGrave b e = go (oneOf twelve b) refl
-  where
-    go : (x : Bool) → oneOf twelve b ≡ x → anyOf parting (cond (oneOf twelve b) (escaped b ∷ []) (bare 96 ∷ bare b ∷ [])) ≡ false
-    go true p = rw p (unfold parting in refl)
-    go false p = simp (p, grave-solid b p, grave-bare)
-byte-solid In b e = go (eqb b 96) (eqb b 34)
-  where
-    go : (x y : Bool) → anyOf parting (cond x [] (cond y (quote ∷ []) (quoted b ∷ []))) ≡ false
-    go true y = refl
-    go false true = unfold parting in refl
-    go false false = unfold parting in refl
-byte-solid InGrave b e = go (oneOf two b)
-  where
-    go : (x : Bool) → anyOf parting (cond x (quotedEscaped b ∷ []) (quoted 96 ∷ quoted b ∷ [])) ≡ false
-    go true = unfold parting in refl
-    go false = unfold parting in refl
+unfolding anyOf
+byte-solid m b =
+    gives-case (λ k g n. isParting k b ≡ false → anyOf parting g ≡ false) b (λ _ e. refl) (λ _ _ e. unfold parting in refl) (λ _ _ e. simp (bare-parting b, e)) (λ _ e. unfold parting in refl)
+    (λ p e. simp (grave-solid b p, grave-bare)) (λ _ e. refl) (λ _ _ e. unfold parting in refl) (λ _ _ e. unfold parting in refl) (λ _ e. unfold parting in refl)
+    (λ _ e. unfold parting in refl) m
 
 parting-text : (m : Mode) (b : ℕ) (s : List ℕ) → isParting m b ≡ true
     → (m ≡ Out) × (signs m (b ∷ s) ≡ bare b ∷ signs Out s)
@@ -311,11 +275,7 @@ module _ (s : List ℕ) (i e : ℕ) (p : e ≡ i + textLen Out (drop i s)) where
 pub short-dash : (s : List ℕ) → length s < 2 → leadsDash s ≡ false
 unfolding leadsDash sameBytes bytes
 short-dash [] h = refl
-short-dash (b ∷ []) h = go (eqb b 96)
-  where
-    go : (x : Bool) → x && false ≡ false
-    go true = refl
-    go false = refl
+short-dash (b ∷ []) h = and-false (eqb b 96)
 short-dash (b ∷ c ∷ s) h = absurd (omega arith)
 
 pub slashed-on : (l : List ℕ) (i : ℕ) → i < length l → slashed (drop i l) ≡ slash (getD l i 0) ∷ slashed (drop (i + 1) l)
@@ -325,18 +285,3 @@ slashed-on l i h = rw (drop-step l i h)
 pub slashed-past : (l : List ℕ) (i : ℕ) → length l ≤ i → slashed (drop i l) ≡ []
 unfolding slashed
 slashed-past l i h = rw (drop-of-length-le l h)
-
--- a name of a table has at most 11 bytes
-short-name : (l : List (List ℕ)) (n : ℕ) → allOf (λ x. leb (length x) 11) l ≡ true → length (getD l n []) ≤ 11
-unfolding allOf
-short-name [] n h = omega arith
-short-name (x ∷ l) zero h = leb-true (length x) 11 (and-l (leb (length x) 11) (allOf (λ y. leb (length y) 11) l) h)
-short-name (x ∷ l) (suc n) h = short-name l n (and-r (leb (length x) 11) (allOf (λ y. leb (length y) 11) l) h)
-
-pub verb-short : (n : ℕ) → length (verbName n) ≤ 11
-unfolding verbName verbNames bytes allOf
-verb-short n = short-name ([] ∷ verbNames) n refl
-
-pub option-short : (n : ℕ) → length (optionName n) ≤ 11
-unfolding optionName longNames bytes allOf
-option-short n = short-name ([] ∷ longNames) n refl

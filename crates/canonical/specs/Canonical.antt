@@ -9,16 +9,12 @@ use Rattle.text.specs.declared.Answer.the-variants.{Wrote, Refused}
 use Rattle.text.specs.Bytes.{bytes, oneOf, isWord}
 use Rattle.text.specs.Lists.{allOf, between, isNil}
 use Rattle.text.specs.Room.{fitted, filled}
-use Rattle.terms.specs.Signs.{Sign, bare, escaped, quote, quoted, quotedEscaped, raws, two}
+use Rattle.terms.specs.Signs.{Sign, bare, escaped, quote, quoted, quotedEscaped, bares, raws, two}
 use Rattle.words.specs.Words.{verbName, optionName, sessionName}
 use Rattle.forms.specs.Forms.{Value, one, many, Entry, Said, alone, equals, matches, Property}
 use Rattle.forms.specs.Targets.{Target, session, path}
 use Rattle.reading.specs.Command.{Argument, number, text, items, Item, verb, option, argument, target, prop}
 use Rattle.reading.specs.Reading.{Part, Reading, refusal, read, readingOf}
-
-unfoldable pub bares : List ℕ → List Sign
-bares [] = []
-bares (b ∷ s) = bare b ∷ bares s
 
 -- in quotes, with GRAVE before GRAVE and `"`
 unfoldable pub inQuotes : ℕ → Sign

@@ -9,9 +9,8 @@ use mathlib.Core.List.{List, [], _∷_, _++_, flatten}
 use mathlib.Core.Bool.{Bool, true, cond}
 use lib.ListN.{length, take, drop, length-append}
 use lib.Seq.{take-append-seam, drop-append-seam}
-use borrow.Author.Tests.{lt-ltb}
-use Rattle.terms.specs.Rows.{lexicalOf, longFlaw}
 use Rattle.reading.specs.Reading.{Reading, refusal, readingOf}
+use Rattle.reading.proofs.Folds.{long-left}
 use Rattle.reading.specs.Records.{targetIn, partAt, targetPart}
 use Rattle.joiner.specs.declared.Joiner.{Joiner}
 use Rattle.joiner.specs.declared.End.{End}
@@ -25,17 +24,13 @@ use Rattle.capture.specs.Trust.{Run, runAnswers, runEnd, endedBy, resume
 
 -- ---- an over-long line's answer is that of row 1, whatever its text
 
-long-reading : (t : List ℕ) → 1024 < length t → readingOf t ≡ refusal 1 1024
-unfolding readingOf lexicalOf longFlaw
-long-reading t h = rw (lt-ltb 1024 (length t) h) refl
-
 long-target : (t : List ℕ) → 1024 < length t → targetPart t ≡ []
 unfolding targetPart
-long-target t h = ap (λ (r : Reading). partAt t (targetIn r)) (long-reading t h)
+long-target t h = ap (λ (r : Reading). partAt t (targetIn r)) (long-left t h)
 
 pub long-line : (l : Lent) (t : List ℕ) → 1024 < length t → lineAnswer l t ≡ longAnswer l
 unfolding lineAnswer longAnswer
-long-line l t h = rw (long-reading t h, long-target t h) refl
+long-line l t h = rw (long-left t h, long-target t h) refl
 
 -- ---- a run of calls gives the capture's answers and its end, however it is divided; and every division has its run
 

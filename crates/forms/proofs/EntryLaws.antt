@@ -30,11 +30,11 @@ use Rattle.terms.proofs.ByteCases.{gives-case}
 -- ---- the items of display and output
 
 -- all of some signs go onto the first part
-ontoAll : List Sign → List (List Sign) → List (List Sign)
+unfoldable pub ontoAll : List Sign → List (List Sign) → List (List Sign)
 ontoAll [] ps = ps
 ontoAll (x ∷ w) ps = onto x (ontoAll w ps)
 
-onto-cons : (a p : List Sign) (ps : List (List Sign)) → ontoAll a (p ∷ ps) ≡ (a ++ p) ∷ ps
+pub onto-cons : (a p : List Sign) (ps : List (List Sign)) → ontoAll a (p ∷ ps) ≡ (a ++ p) ∷ ps
 unfolding ontoAll
 onto-cons [] p ps = refl
 onto-cons (x ∷ a) p ps = ap (onto x) (onto-cons a p ps)
@@ -57,6 +57,17 @@ end-parts Out l = refl
 end-parts OutGrave l = simp (and-false (not l))
 end-parts In l = refl
 end-parts InGrave l = simp (and-false (not l))
+
+-- there is at least one item
+pub entry-parts-some : (l : Bool) (t : List Sign) → isNil (entryParts l t) ≡ false
+unfolding entryParts
+entry-parts-some l [] = refl
+entry-parts-some l (x ∷ t) = go (not l && isBare 44 x) (entryParts (cond (isBare 40 x) true (cond (isBare 41 x) false l)) t)
+  where
+    go : (b : Bool) (ps : List (List Sign)) → isNil (cond b ([] ∷ ps) (onto x ps)) ≡ false
+    go true ps = refl
+    go false [] = refl
+    go false (p ∷ ps) = refl
 
 -- what stands at the end of an item: nothing, or a comma and more items
 pub afterEntry : List ℕ → List (List Sign)

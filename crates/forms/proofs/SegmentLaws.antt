@@ -2,7 +2,7 @@
 use Prim.Native.Nat.{ℕ, suc, zero, _+_, _-_, _<_, _≤_}
 use mathlib.Core.Path.{_≡_, refl, sym, ap, _∙_}
 use mathlib.Core.List.{List, [], _∷_, _++_}
-use mathlib.Core.Bool.{Bool, true, false, cond, not, _&&_, _||_, and-false}
+use mathlib.Core.Bool.{Bool, true, false, cond, not, _&&_, _||_, and-false, and-true}
 use mathlib.Core.Option.{Option, none, some}
 use native.Mathlib.Omega.{arith}
 use native.Mathlib.Numerals.{add-one}
@@ -16,7 +16,7 @@ use Rattle.text.specs.Lists.{allOf, anyOf, upTo, parts, runLen, isNil}
 use Rattle.text.specs.Decimal.{valueFrom, isDecimal, decimalOf}
 use Rattle.text.proofs.Basics.{and-l, no-case, parts-at, parts-none, parts-some}
 use Rattle.text.proofs.Slices.{part-from, part-between, length-between}
-use Rattle.text.proofs.Decimals.{value-most}
+use Rattle.text.proofs.Decimals.{value-most, told-is, told-no}
 use Rattle.text.proofs.Scans.{run-within}
 use Rattle.words.specs.Words.{sessionName}
 use Rattle.forms.specs.declared.Piece.{Piece}
@@ -114,27 +114,15 @@ module _ (d : List ℕ) where
 
   pub number-plain : eqb (getD d 0 0) 48 ≡ false → decimalOf 65535 d ≡ numberOf d
   unfolding numberOf isNumber decimalOf
-  number-plain e = sym (rw e (go (isDecimal 65535 d)))
-    where
-      go : (b : Bool) → cond (b && true) (number.Is (valueFrom 0 d)) number.No ≡ cond b (number.Is (valueFrom 0 d)) number.No
-      go true = refl
-      go false = refl
+  number-plain e = sym (rw e (ap (λ (b : Bool). cond b (number.Is (valueFrom 0 d)) number.No) (and-true (isDecimal 65535 d))))
 
   number-is : (v : ℕ) → number.Is v ≡ numberOf d → (isNumber d ≡ true) × (v ≡ valueFrom 0 d)
   unfolding numberOf
-  number-is v e = go (isNumber d) e
-    where
-      go : (b : Bool) → number.Is v ≡ cond b (number.Is (valueFrom 0 d)) number.No → (b ≡ true) × (v ≡ valueFrom 0 d)
-      go true q = (refl, cc)
-      go false q = absurd (let z : _≡_ {A = ℕ} 0 1 = cc in omega arith)
+  number-is v e = told-is (isNumber d) v (valueFrom 0 d) e
 
   number-no : number.No ≡ numberOf d → isNumber d ≡ false
   unfolding numberOf
-  number-no e = go (isNumber d) e
-    where
-      go : (b : Bool) → number.No ≡ cond b (number.Is (valueFrom 0 d)) number.No → b ≡ false
-      go true q = absurd (let z : _≡_ {A = ℕ} 0 1 = cc in omega arith)
-      go false q = refl
+  number-no e = told-no (isNumber d) (valueFrom 0 d) e
 
   pub number-most : (v : ℕ) → number.Is v ≡ numberOf d → v ≤ 65535
   number-most v e =

@@ -49,11 +49,20 @@ numbered-bytes s e =
     let p = and-l (isDecimal 65535 d) z (and-r (isTagLen (tagLen s)) (isDecimal 65535 d && z) e) in
     tag-bytes s (all-mono isDigit isSegmentByte digit-in d (decimal-made 65535 d p .all))
 
-starred-bytes : (s : List ℕ) → isStarred s ≡ true → allOf isSegmentByte s ≡ true
+pub starred-bytes : (s : List ℕ) → isStarred s ≡ true → allOf isSegmentByte s ≡ true
 unfolding isStarred
 starred-bytes s e =
     let p = same-eq (drop (tagLen s) s) (bytes "*") (and-r (isTagLen (tagLen s)) (sameBytes (drop (tagLen s) s) (bytes "*")) e) in
     tag-bytes s (ap (allOf isSegmentByte) p ∙ unfold allOf bytes in refl)
+
+-- the empty text is no segment
+pub nil-segment : isSegment [] ≡ false
+unfolding isSegment isNumbered sameBytes tagLen runLen bytes
+nil-segment = refl
+
+pub nil-starred : isStarred [] ≡ false
+unfolding isStarred tagLen runLen
+nil-starred = refl
 
 pub segment-bytes : (s : List ℕ) → isSegment s ≡ true → allOf isSegmentByte s ≡ true
 unfolding isSegment

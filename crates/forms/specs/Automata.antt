@@ -1,4 +1,4 @@
--- Values as the code reads them, sign by sign in one pass. proofs/AutomataLaws has it that these are the forms of specs/Forms.
+-- Values as the code reads them, sign by sign in one pass. proofs/TextLaws has it that these are the forms of specs/Forms.
 use Prim.Native.Nat.{ℕ, zero, suc, _+_}
 use mathlib.Core.List.{List, [], _∷_}
 use mathlib.Core.Bool.{Bool, true, false, cond, not, _&&_}

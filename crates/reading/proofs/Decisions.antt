@@ -37,13 +37,9 @@ use Rattle.reading.specs.Cursor.{decidedOf}
 use Rattle.reading.specs.Shown.{byShape, argumentIf}
 
 -- does a term start with this bare byte?
-pub starts-same : (n : ℕ) (t : List Sign) → firstBare n t ≡ starts n t
-starts-same n [] = refl
-starts-same n (x ∷ t) = refl
-
 pub starts-bytes : (n : ℕ) (t : List ℕ) → startsBare n t ≡ starts n (signs Out t)
 unfolding startsBare
-starts-bytes n t = starts-same n (signs Out t)
+starts-bytes n t = refl
 
 -- ---- the verb
 

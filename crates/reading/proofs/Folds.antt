@@ -32,6 +32,8 @@ use Rattle.reading.specs.Records.{recordOf, recordsOf, readRecords, answ
 use Rattle.reading.specs.Cursor.{shownOf, left, start}
 use Rattle.reading.specs.Shown.{verdictIn, neededIn, recordShown, optionSize, recordSize, recordsIn, totalFrom, bytesIn, isTarget}
 use Rattle.reading.proofs.Steps.{record-shown, record-size, Stepped}
+use Rattle.terms.proofs.RowLaws.{no-row}
+use Rattle.terms.proofs.ScanLaws.{long-line}
 
 -- no record has more than ten bytes
 pub size-most : (x : Shown) → recordSize x ≤ 10
@@ -96,10 +98,6 @@ module _ (line : List ℕ) (c : Cursor) (x : Shown) (a n : ℕ) (after : Cursor)
   pub target-part : verdictIn (left line c) ≡ Fine → targetIn (left line c) ≡ cond (isTarget x) (span a n) (targetIn (left line after))
   target-part e = ap targetIn (s .leaves) ∙ add-target x a n (s .item) (s .shows) (left line after) (sym verdict-part ∙ e)
 
--- one record more is written, and then the rest
-pub put-more : (l m : List ℕ) (w k : ℕ) (rs rest : List ℕ) → m ≡ sets l w rs → k ≡ length rs → sets m (w + k) rest ≡ sets l w (rs ++ rest)
-put-more l m w k rs rest e h = rw (e, h) (sets-append rs rest l w)
-
 -- a refusal is no reading that is fine
 pub refused-fine : {P : Type 0} (r : Reading) (k p : ℕ) → r ≡ refusal k p → verdictIn r ≡ Fine → P
 refused-fine r k p e f = absurd (let z : _≡_ {A = ℕ} 0 1 = cc (ap verdictIn e) in omega arith)
@@ -124,12 +122,11 @@ module _ (line : List ℕ) where
       go (Flawed k p) h = rw h at e
 
   pub fine-short : lexicalOf line ≡ Fine → length line ≤ 1024
-  unfolding lexicalOf longFlaw
-  fine-short e = go (ltb 1024 (length line)) refl
-    where
-      go : (x : Bool) → ltb 1024 (length line) ≡ x → length line ≤ 1024
-      go true h = let z : _≡_ {A = ℕ} 0 1 = cc (rw h at e) in absurd (omega arith)
-      go false h = ltb-false 1024 (length line) h
+  fine-short e = no-row line .1 e .short
+
+  -- a line over 1,024 bytes is refused as 1, whatever its text
+  pub long-left : 1024 < length line → readingOf line ≡ refusal 1 1024
+  long-left h = flawed-left 1 1024 (long-line line h)
 
   pub blank-left : isNil (termsOf line) ≡ true → left line start ≡ read []
   unfolding left termsOf walkTerms

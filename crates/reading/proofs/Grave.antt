@@ -11,44 +11,27 @@ use Rattle.terms.specs.declared.Mode.{Mode}
 use Rattle.terms.specs.declared.Mode.the-variants.{Out, OutGrave, In, InGrave}
 use Rattle.terms.specs.Signs.{after}
 use Rattle.terms.specs.Rows.{endMode}
-use Rattle.terms.proofs.RowLaws.{lone-is, row-3}
+use Rattle.terms.proofs.RowLaws.{isGrave, lone-is, row-3}
 use Rattle.joiner.specs.Lines.{Given, line, refused, linesOf, waitsAfter, dangling}
 use Rattle.joiner.proofs.Given.{Every, Sound, sound-lines}
 use Rattle.reading.specs.Reading.{readingOf, refusal}
 use Rattle.reading.specs.Order.{order, isFirstOf, Refused, byLine, byTerm, byEnd}
 use Rattle.reading.proofs.Order.{line-exactly}
 use borrow.Author.Tests.{not-true}
-
-abbrev graveWaits : Mode → Bool
-graveWaits Out = false
-graveWaits OutGrave = true
-graveWaits In = false
-graveWaits InGrave = true
+use Rattle.terms.proofs.ByteCases.{gives-case}
 
 -- a GRAVE waits at a text's end, as the signs have it, where it does as the joiner has it
-after-waits : (m : Mode) (b : ℕ) → graveWaits (after m b) ≡ (not (graveWaits m) && eqb b 96)
-unfolding after
-after-waits Out b = go (eqb b 96) (eqb b 34)
-  where
-    go : (x y : Bool) → graveWaits (cond x OutGrave (cond y In Out)) ≡ x
-    go true y = refl
-    go false true = refl
-    go false false = refl
-after-waits OutGrave b = refl
-after-waits In b = go (eqb b 96) (eqb b 34)
-  where
-    go : (x y : Bool) → graveWaits (cond x InGrave (cond y Out In)) ≡ x
-    go true y = refl
-    go false true = refl
-    go false false = refl
-after-waits InGrave b = refl
+after-waits : (m : Mode) (b : ℕ) → isGrave (after m b) ≡ (not (isGrave m) && eqb b 96)
+after-waits m b =
+    gives-case (λ k g n. isGrave n ≡ (not (isGrave k) && eqb b 96)) b (λ p. sym p) (λ p _. sym p) (λ p _. sym p) (λ _. refl) (λ _. refl) (λ p. sym p) (λ p _. sym p) (λ p _. sym p)
+    (λ _. refl) (λ _. refl) m
 
-waits-same : (m : Mode) (s : List ℕ) → graveWaits (walk after m s) ≡ waitsAfter (graveWaits m) s
+waits-same : (m : Mode) (s : List ℕ) → isGrave (walk after m s) ≡ waitsAfter (isGrave m) s
 unfolding walk waitsAfter
 waits-same m [] = refl
 waits-same m (b ∷ s) = waits-same (after m b) s ∙ ap (λ (g : Bool). waitsAfter g s) (after-waits m b)
 
-dangles-same : (t : List ℕ) → graveWaits (endMode Out t) ≡ dangling t
+dangles-same : (t : List ℕ) → isGrave (endMode Out t) ≡ dangling t
 unfolding endMode dangling
 dangles-same t = waits-same Out t
 

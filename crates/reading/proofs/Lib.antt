@@ -1,4 +1,5 @@
 pub mod Examples
+pub mod TakenCases
 pub mod Steps
 pub mod Decisions
 pub mod Folds

@@ -26,36 +26,23 @@ use Rattle.reading.specs.Command.{argumentBy, Item, verb, option, argume
 use Rattle.reading.specs.Reading.{begin, refuses, takes, orNo, notSeen, decideVerb, decideOption, decideArgument, decideTarget, decideProperty, decideAfter, decideIn, decide, next, Part, read, partOf, walkTerms, readingOf}
 use Rattle.reading.specs.Records.{span, optionRecord, recordOf}
 use Rattle.reading.specs.Inside.{partsInOrder, valueSpan, optionSpans, spansOf, isWithin, namesItself, isInside, recordFrom}
-use Rattle.reading.proofs.Steps.{Made, made}
+use Rattle.reading.proofs.TakenCases.{taken-case}
 use Rattle.reading.proofs.PartOrder.{ended-nil, walk-taken, read-walk, parts-in-order, bounds, order-ends}
+use Rattle.terms.proofs.TermLaws.{raws-append, bare-is, bare-split}
 
 -- ---- a property's name and operator have as many bytes as they say
 
-one-byte : (k : ℕ) (x : Sign) → isBare k x ≡ true → length (raw x) ≡ 1
-one-byte k (bare b) e = refl
-one-byte k (escaped b) e = no-case (sym e)
-one-byte k quote e = no-case (sym e)
-one-byte k (quoted b) e = no-case (sym e)
-one-byte k (quotedEscaped b) e = no-case (sym e)
-
-split-at : (k : ℕ) (t : List Sign) → anyOf (isBare k) t ≡ true → length (raws t) ≡ length (raws (upTo (isBare k) t)) + 1 + length (raws (past (isBare k) t))
-unfolding anyOf upTo past raws
-split-at k [] e = no-case (sym e)
-split-at k (x ∷ t) e = go (isBare k x) refl (split-at k t)
-  where
-    go : (y : Bool) → isBare k x ≡ y → (anyOf (isBare k) t ≡ true → length (raws t) ≡ length (raws (upTo (isBare k) t)) + 1 + length (raws (past (isBare k) t)))
-        → length (raws (x ∷ t)) ≡ length (raws (upTo (isBare k) (x ∷ t))) + 1 + length (raws (past (isBare k) (x ∷ t)))
-    go true p ih = let n = one-byte k x p in let l = length-append (raw x) (raws t) in rw p (omega arith)
-    go false p ih =
-        let l = length-append (raw x) (raws t) in
-        let m = length-append (raw x) (raws (upTo (isBare k) t)) in
-        let h = ih (rw p at e) in
-        rw p (omega arith)
+split-size : (k : ℕ) (t : List Sign) → anyOf (isBare k) t ≡ true → length (raws t) ≡ length (raws (upTo (isBare k) t)) + 1 + length (raws (past (isBare k) t))
+unfolding raws
+split-size k t e =
+    let s = ap (λ (z : List Sign). length (raws z)) (bare-split k t e) ∙ ap length (raws-append (upTo (isBare k) t) (bare k ∷ past (isBare k) t)) in
+    let l = length-append (raws (upTo (isBare k) t)) (k ∷ raws (past (isBare k) t)) in
+    omega arith
 
 starts-some : (k : ℕ) (t : List Sign) → starts k t ≡ true → 0 < length (raws t)
 unfolding raws
 starts-some k [] e = no-case (sym e)
-starts-some k (x ∷ t) e = let n = one-byte k x e in let l = length-append (raw x) (raws t) in omega arith
+starts-some k (x ∷ t) e = let l = ap (λ (y : Sign). length (raw y ++ raws t)) (bare-is k x e) in omega arith
 
 said-size : (t : List Sign) (s : Said) → saidOf t ≡ some s → operatorOf s ≤ 1 + length (raws t)
 unfolding saidOf
@@ -92,7 +79,7 @@ property-size t p h = go (hasEq t) refl
         let g = given-some (saidOf (past (isBare 61) t)) _ p (c .1) in
         let z : p ≡ property (raws (upTo (isBare 61) t)) (g .what) = sym (same-some _ p (g .gives)) in
         let s = said-size (past (isBare 61) t) (g .what) (g .is) in
-        let l = split-at 61 t e in
+        let l = split-size 61 t e in
         rw z (omega arith)
     go false e =
         let c = cond-some (isName (raws t)) _ p (rw e at h) in
@@ -132,50 +119,15 @@ prop-fits t p h a =
     value (equals v) k = within a (a + length (raws t)) (a + length (p .name) + 1) (length (raws t) - length (p .name) - 1) (omega arith) (omega arith)
     value (matches v) k = within a (a + length (raws t)) (a + length (p .name) + 2) (length (raws t) - length (p .name) - 2) (omega arith) (omega arith)
 
-property-fits : (help : Bool) (count : ℕ) (t : List Sign) (i : Item) → decideProperty help count t ≡ takes i → Fits t i
-unfolding decideProperty
-property-fits help count t i h = go (leb 32 count) refl
-  where
-    sized : (x : Bool) (p : Property) → cond x (topicOf t) (propertyOf t) ≡ some p → Sized t p
-    sized true p e = topic-size t p e
-    sized false p e = property-size t p e
-
-    go : (x : Bool) → leb 32 count ≡ x → Fits t i
-    go true e = let z : _≡_ {A = ℕ} 0 1 = cc (rw e at h) in absurd (omega arith)
-    go false e =
-        let m = made 13 (cond help (topicOf t) (propertyOf t)) prop i (rw e at h) in
-        rw (m .gives) (prop-fits t (m .what) (sized help (m .what) (m .is)))
+property-fits : (help : Bool) (t : List Sign) (q : Property) → cond help (topicOf t) (propertyOf t) ≡ some q → Fits t (prop q)
+property-fits true t q e = prop-fits t q (topic-size t q e)
+property-fits false t q e = prop-fits t q (property-size t q e)
 
 part-fits : (p : Phase) (help : Bool) (seen : List Bool) (count : ℕ) (t : List Sign) (i : Item) → decideIn p help seen count t ≡ takes i → Fits t i
-unfolding decideVerb decideOption decideAfter decideTarget decideArgument
-part-fits First help seen count t i h = let m = made 6 (verbOf (raws t)) verb i h in rw (m .gives) (unfold Fits allOf in λ a. refl)
-part-fits Options help seen count t i h = go (starts 45 t) refl
-  where
-    new : (k : ℕ) (x : Bool) → cond x (refuses 8) (takes (option k)) ≡ takes i → Fits t i
-    new k true e = let z : _≡_ {A = ℕ} 0 1 = cc in absurd (omega arith)
-    new k false e = let z : i ≡ option k = cc in rw z (option-fits t k)
-
-    opt : (o : Option ℕ) → notSeen seen o ≡ takes i → Fits t i
-    opt none e = let z : _≡_ {A = ℕ} 0 1 = cc in absurd (omega arith)
-    opt (some k) e = new k (getD seen k false) e
-
-    aft : (x : Bool) → cond x (orNo 12 (targetOf (raws t)) target) (decideProperty help count t) ≡ takes i → Fits t i
-    aft true e = let m = made 12 (targetOf (raws t)) target i e in rw (m .gives) (unfold Fits allOf in λ a. simp (whole-fits t a))
-    aft false e = property-fits help count t i e
-
-    go : (x : Bool) → starts 45 t ≡ x → Fits t i
-    go true e = opt (optionOf (drop 1 (raws t))) (rw e at h)
-    go false e = aft (not help && not (hasEq t)) (rw e at h)
-part-fits (Waits k) help seen count t i h = go (starts 45 t) refl
-  where
-    go : (x : Bool) → starts 45 t ≡ x → Fits t i
-    go true e = let z : _≡_ {A = ℕ} 0 1 = cc (rw e at h) in absurd (omega arith)
-    go false e = let m = made 10 (argumentBy (kindOf k) t) (argument k) i (rw e at h) in rw (m .gives) (unfold Fits allOf in λ a. simp (whole-fits t a))
-part-fits Rest help seen count t i h = go (starts 45 t) refl
-  where
-    go : (x : Bool) → starts 45 t ≡ x → Fits t i
-    go true e = let z : _≡_ {A = ℕ} 0 1 = cc (rw e at h) in absurd (omega arith)
-    go false e = property-fits help count t i (rw e at h)
+unfolding Fits allOf
+part-fits p help seen count t i h =
+    taken-case (λ ph j. Fits t j) help seen count t (λ k e a. refl) (λ k e n. option-fits t k) (λ k x d e a. simp (whole-fits t a)) (λ g x y e a. simp (whole-fits t a))
+    (λ q x c e. property-fits help t q e) (λ q c e. property-fits help t q e) p i h
 
 one-names : (s : State) (t : Term) (i : Item) → decide s (t .text) ≡ takes i → namesItself (partOf t i) ≡ true
 unfolding decide Fits

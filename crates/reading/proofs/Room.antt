@@ -26,8 +26,9 @@ use Rattle.reading.specs.Reading.{state, begin, refuses, takes, orNo, no
 use Rattle.reading.specs.Records.{optionRecord, recordOf, recordsOf, readRecords}
 use Rattle.reading.specs.Cursor.{shownOf}
 use Rattle.reading.specs.Shown.{neededIn, recordShown, recordSize}
-use Rattle.reading.proofs.Steps.{Made, made, record-shown, record-size}
+use Rattle.reading.proofs.Steps.{record-shown, record-size}
 use Rattle.reading.proofs.PartOrder.{ended-nil, Taken, walk-taken, read-walk}
+use Rattle.reading.proofs.TakenCases.{taken-case}
 
 -- options that may still be given
 free : List Bool → ℕ
@@ -77,70 +78,25 @@ Room p help seen count i = (a n : ℕ) → length (recordOf i a n) + roomOf (nex
 prop-size : (q : Property) (a n : ℕ) → length (recordOf (prop q) a n) ≡ 10
 prop-size q a n = ap length (sym (record-shown (prop q) a n)) ∙ record-size (shownOf (prop q)) a n
 
-verb-room : (help : Bool) (seen : List Bool) (count : ℕ) (t : List Sign) (i : Item) → decideVerb t ≡ takes i → Room First help seen count i
-unfolding decideVerb Room roomOf room phaseRoom
-verb-room help seen count t i h a n = let m = made 6 (verbOf (raws t)) verb i h in rw (m .gives) (omega arith)
+option-part : (help : Bool) (seen : List Bool) (count k : ℕ) (s : List ℕ) → optionOf s ≡ some k → getD seen k false ≡ false → length seen ≡ 13 → Room Options help seen count (option k)
+unfolding Room roomOf room
+option-part help seen count k s p q l a n =
+    let b = option-only-name s k p in
+    let y = b .1 in
+    let f = set-free-1 seen k (b .0) (omega arith) q in
+    let o = option-room k (a + n) (kindOf k) in
+    let five : phaseRoom Options ≡ 5 = unfold phaseRoom in refl in
+    omega arith
 
-option-room-in : (help : Bool) (seen : List Bool) (count : ℕ) (t : List Sign) (i : Item) → decideOption seen t ≡ takes i → length seen ≡ 13 → Room Options help seen count i
-unfolding decideOption Room roomOf room
-option-room-in help seen count t i h l a n = go (optionOf (drop 1 (raws t))) refl
-  where
-    new : (k : ℕ) → optionOf (drop 1 (raws t)) ≡ some k → (x : Bool) → getD seen k false ≡ x → length (recordOf i a n) + roomOf (next (state Options help seen count) i) ≤ room Options seen count
-    new k p true q = let z : _≡_ {A = ℕ} 0 1 = cc (rw (p, q) at h) in absurd (omega arith)
-    new k p false q =
-        let z : i ≡ option k = cc (rw (p, q) at h) in
-        let b = option-only-name (drop 1 (raws t)) k p in
-        let y = b .1 in
-        let f = set-free-1 seen k (b .0) (omega arith) q in
-        let o = option-room k (a + n) (kindOf k) in
-        let five : phaseRoom Options ≡ 5 = unfold phaseRoom in refl in
-        rw z (omega arith)
-
-    go : (o : Option ℕ) → optionOf (drop 1 (raws t)) ≡ o → length (recordOf i a n) + roomOf (next (state Options help seen count) i) ≤ room Options seen count
-    go none p = let z : _≡_ {A = ℕ} 0 1 = cc (rw p at h) in absurd (omega arith)
-    go (some k) p = new k p (getD seen k false) refl
-
-argument-room : (k : ℕ) (help : Bool) (seen : List Bool) (count : ℕ) (t : List Sign) (i : Item) → decideArgument k t ≡ takes i → Room (Waits k) help seen count i
-unfolding decideArgument Room roomOf room phaseRoom
-argument-room k help seen count t i h a n = go (starts 45 t) refl
-  where
-    go : (x : Bool) → starts 45 t ≡ x → length (recordOf i a n) + roomOf (next (state (Waits k) help seen count) i) ≤ room (Waits k) seen count
-    go true p = let z : _≡_ {A = ℕ} 0 1 = cc (rw p at h) in absurd (omega arith)
-    go false p = let m = made 10 (argumentBy (kindOf k) t) (argument k) i (rw p at h) in rw (m .gives) (omega arith)
-
-prop-room : (p : Phase) (help : Bool) (seen : List Bool) (count : ℕ) (t : List Sign) (i : Item) → decideProperty help count t ≡ takes i → Room p help seen count i
-unfolding decideProperty Room roomOf room phaseRoom
-prop-room p help seen count t i h a n = go (leb 32 count) refl
-  where
-    go : (x : Bool) → leb 32 count ≡ x → length (recordOf i a n) + roomOf (next (state p help seen count) i) ≤ room p seen count
-    go true q = let z : _≡_ {A = ℕ} 0 1 = cc (rw q at h) in absurd (omega arith)
-    go false q =
-        let m = made 13 (cond help (topicOf t) (propertyOf t)) prop i (rw q at h) in
-        let c = leb-false 32 count q in
-        let v = prop-size (m .what) a n in
-        rw (m .gives) (omega arith)
-
-after-room : (help : Bool) (seen : List Bool) (count : ℕ) (t : List Sign) (i : Item) → decideAfter help count t ≡ takes i → Room Options help seen count i
-unfolding decideAfter decideTarget Room roomOf room phaseRoom
-after-room help seen count t i h a n = go (not help && not (hasEq t)) refl
-  where
-    go : (x : Bool) → (not help && not (hasEq t)) ≡ x → length (recordOf i a n) + roomOf (next (state Options help seen count) i) ≤ room Options seen count
-    go true p = let m = made 12 (targetOf (raws t)) target i (rw p at h) in rw (m .gives) (omega arith)
-    go false p = prop-room Options help seen count t i (rw p at h) a n
+prop-room : (p : Phase) (help : Bool) (seen : List Bool) (count : ℕ) (q : Property) → count < 32 → Room p help seen count (prop q)
+unfolding Room roomOf room phaseRoom
+prop-room p help seen count q c a n = let v = prop-size q a n in omega arith
 
 one-room : (p : Phase) (help : Bool) (seen : List Bool) (count : ℕ) (t : List Sign) (i : Item) → decideIn p help seen count t ≡ takes i → length seen ≡ 13 → Room p help seen count i
-one-room First help seen count t i h l = verb-room help seen count t i h
-one-room Options help seen count t i h l = go (starts 45 t) refl
-  where
-    go : (x : Bool) → starts 45 t ≡ x → Room Options help seen count i
-    go true p = option-room-in help seen count t i (rw p at h) l
-    go false p = after-room help seen count t i (rw p at h)
-one-room (Waits k) help seen count t i h l = argument-room k help seen count t i h
-one-room Rest help seen count t i h l = go (starts 45 t) refl
-  where
-    go : (x : Bool) → starts 45 t ≡ x → Room Rest help seen count i
-    go true p = let z : _≡_ {A = ℕ} 0 1 = cc (rw p at h) in absurd (omega arith)
-    go false p = prop-room Rest help seen count t i (rw p at h)
+unfolding Room roomOf room phaseRoom
+one-room p help seen count t i h l =
+    taken-case (λ ph j. Room ph help seen count j) help seen count t (λ k e a n. omega arith) (λ k e f. option-part help seen count k (drop 1 (raws t)) e f l)
+    (λ k x d e a n. omega arith) (λ g x y e a n. omega arith) (λ q x c e. prop-room Options help seen count q c) (λ q c e. prop-room Rest help seen count q c) p i h
 
 next-length : (s : State) (i : Item) → length (next s i .seen) ≡ length (s .seen)
 next-length s (verb n) = refl

@@ -42,17 +42,7 @@ use Rattle.reading.specs.Reading.{state, begin, Decision, refuses, takes
 use Rattle.reading.specs.Records.{optionRecord, valueRecord, recordOf, recordsOf}
 use Rattle.reading.specs.Cursor.{shownOf, decidedOf, nextShown, cursor, step, stepOn, endOn, stepAt, stepOf, left, start}
 use Rattle.reading.specs.Shown.{valueShown, recordShown, optionSize, recordSize, nameSize, counted}
-
--- ---- what a decision was made from
-
-pub record Made {A : Type 0} (o : Option A) (f : A → Item) (i : Item) : Type 0 where
-  pub what : A
-  pub is : o ≡ some what
-  pub gives : i ≡ f what
-
-pub made : {A : Type 0} (n : ℕ) (o : Option A) (f : A → Item) (i : Item) → orNo n o f ≡ takes i → Made o f i
-made n none f i e = let z : _≡_ {A = ℕ} 0 1 = cc in absurd (omega arith)
-made n (some a) f i e = record { what = a; is = refl; gives = cc }
+use Rattle.reading.proofs.TakenCases.{taken-case}
 
 -- ---- a part by what is shown of it
 
@@ -138,52 +128,17 @@ pub record Took (count : ℕ) (i : Item) : Type 0 where
 took-other : (count : ℕ) (i : Item) → nameSize (shownOf i) ≡ 0 → counted (shownOf i) ≡ 0 → Took count i
 took-other count i a b = record { name = omega arith; room = λ e. absurd (omega arith) }
 
-took-prop : (help : Bool) (count : ℕ) (t : List Sign) (i : Item) → decideProperty help count t ≡ takes i → Took count i
-unfolding decideProperty
-took-prop help count t i h = go (leb 32 count) refl
+took-prop : (help : Bool) (count : ℕ) (t : List Sign) (q : Property) → count < 32 → cond help (topicOf t) (propertyOf t) ≡ some q → Took count (prop q)
+took-prop help count t q c e = record { name = name-most (q .name) (named help e); room = λ _. c }
   where
-    named : (x : Bool) (p : Property) → cond x (topicOf t) (propertyOf t) ≡ some p → isName (p .name) ≡ true
-    named true p e = topic-name t p e
-    named false p e = property-name t p e
-
-    go : (x : Bool) → leb 32 count ≡ x → Took count i
-    go true e = let z : _≡_ {A = ℕ} 0 1 = cc (rw e at h) in absurd (omega arith)
-    go false e =
-        let m = made 13 (cond help (topicOf t) (propertyOf t)) prop i (rw e at h) in
-        let c = leb-false 32 count e in
-        let n = name-most (m .what .name) (named help (m .what) (m .is)) in
-        rw (m .gives) (record { name = n; room = λ _. c })
+    named : (x : Bool) → cond x (topicOf t) (propertyOf t) ≡ some q → isName (q .name) ≡ true
+    named true e = topic-name t q e
+    named false e = property-name t q e
 
 took-in : (p : Phase) (help : Bool) (seen : List Bool) (count : ℕ) (t : List Sign) (i : Item) → decideIn p help seen count t ≡ takes i → Took count i
-unfolding decideVerb decideOption decideAfter decideTarget decideArgument
-took-in First help seen count t i h = let m = made 6 (verbOf (raws t)) verb i h in rw (m .gives) (took-other count (verb (m .what)) refl refl)
-took-in Options help seen count t i h = go (starts 45 t) refl
-  where
-    new : (k : ℕ) (x : Bool) → cond x (refuses 8) (takes (option k)) ≡ takes i → Took count i
-    new k true e = let z : _≡_ {A = ℕ} 0 1 = cc in absurd (omega arith)
-    new k false e = let z : i ≡ option k = cc in rw z (took-other count (option k) refl refl)
-
-    opt : (o : Option ℕ) → notSeen seen o ≡ takes i → Took count i
-    opt none e = let z : _≡_ {A = ℕ} 0 1 = cc in absurd (omega arith)
-    opt (some k) e = new k (getD seen k false) e
-
-    aft : (x : Bool) → cond x (orNo 12 (targetOf (raws t)) target) (decideProperty help count t) ≡ takes i → Took count i
-    aft true e = let m = made 12 (targetOf (raws t)) target i e in rw (m .gives) (took-other count (target (m .what)) refl refl)
-    aft false e = took-prop help count t i e
-
-    go : (x : Bool) → starts 45 t ≡ x → Took count i
-    go true e = opt (optionOf (drop 1 (raws t))) (rw e at h)
-    go false e = aft (not help && not (hasEq t)) (rw e at h)
-took-in (Waits k) help seen count t i h = go (starts 45 t) refl
-  where
-    go : (x : Bool) → starts 45 t ≡ x → Took count i
-    go true e = let z : _≡_ {A = ℕ} 0 1 = cc (rw e at h) in absurd (omega arith)
-    go false e = let m = made 10 (argumentBy (kindOf k) t) (argument k) i (rw e at h) in rw (m .gives) (took-other count (argument k (m .what)) refl refl)
-took-in Rest help seen count t i h = go (starts 45 t) refl
-  where
-    go : (x : Bool) → starts 45 t ≡ x → Took count i
-    go true e = let z : _≡_ {A = ℕ} 0 1 = cc (rw e at h) in absurd (omega arith)
-    go false e = took-prop help count t i (rw e at h)
+took-in p help seen count t i h =
+    taken-case (λ ph j. Took count j) help seen count t (λ k e. took-other count (verb k) refl refl) (λ k e n. took-other count (option k) refl refl)
+    (λ k a d e. took-other count (argument k a) refl refl) (λ g x y e. took-other count (target g) refl refl) (λ q x c e. took-prop help count t q c e) (took-prop help count t) p i h
 
 pub took : (s : State) (t : List Sign) (i : Item) → decide s t ≡ takes i → Took (s .count) i
 unfolding decide
@@ -216,6 +171,7 @@ left-takes line c a n i e d = left-some line c a n e ∙ rw d
 -- a step that gave a part: which part it is, what it leaves, and where the cursor then stands
 pub record Stepped (line : List ℕ) (c : Cursor) (x : Shown) (a n : ℕ) (after : Cursor) : Type 0 where
   pub item : Item
+  pub taken : decide (c .state) (signs Out (take n (drop a line))) ≡ takes item
   pub shows : shownOf item ≡ x
   pub leaves : left line c ≡ adding (record { start = a; len = n; item = item }) (left line after)
   pub from : c .at ≤ a
@@ -266,6 +222,9 @@ module _ (line : List ℕ) (c : Cursor) (s : Step) (is : s ≡ stepOf line c) wh
           let at-is : s .next .at ≡ b + m = ap (λ (t : Step). t .next .at) h in
           record {
             item = i;
+            taken = ap (λ (j : ℕ). decide (c .state) (signs Out (take j (drop a line)))) (sym n-is)
+                ∙ ap (λ (j : ℕ). decide (c .state) (signs Out (take m (drop j line)))) (sym a-is)
+                ∙ d;
             shows = x-is;
             leaves = left-takes line c b m i e d
                 ∙ ap (λ (t : Cursor). adding (record { start = b; len = m; item = i }) (left line t)) (sym (ap (λ (t : Step). t .next) h))

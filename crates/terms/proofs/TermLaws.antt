@@ -10,8 +10,8 @@ use lib.Seq.{drop-drop}
 use lib.Dec.{eqb}
 use borrow.Author.Tests.{eqb-true, le-leb, lt-ltb}
 use Rattle.text.specs.Bytes.{bytes, oneOf}
-use Rattle.text.specs.Lists.{anyOf, upTo, runLen, walk, allOf}
-use Rattle.text.proofs.Basics.{and-l, and-r, or-l, or-r, no-case, up-over}
+use Rattle.text.specs.Lists.{anyOf, upTo, runLen, walk, allOf, past}
+use Rattle.text.proofs.Basics.{and-l, and-r, or-l, or-r, no-case, up-over, any-split}
 use Rattle.text.proofs.Classes.{other-byte}
 use Rattle.text.proofs.Slices.{length-between}
 use Rattle.text.proofs.Scans.{drop-step}
@@ -306,6 +306,21 @@ pub none-bares : (f : ℕ → Bool) (k : ℕ) → f k ≡ false → (s : List �
 unfolding allOf anyOf
 none-bares f k n [] e = refl
 none-bares f k n (b ∷ s) e = simp (other-byte f k b true n (and-l (f b) (allOf f s) e), none-bares f k n s (and-r (f b) (allOf f s) e))
+
+-- ---- a bare byte among signs
+
+pub bare-is : (k : ℕ) (x : Sign) → isBare k x ≡ true → x ≡ bare k
+bare-is k (bare b) e = ap bare (eqb-true b k e)
+bare-is k (escaped b) e = no-case (sym e)
+bare-is k quote e = no-case (sym e)
+bare-is k (quoted b) e = no-case (sym e)
+bare-is k (quotedEscaped b) e = no-case (sym e)
+
+-- where one stands: what stands before the first, it, and what stands after it
+pub bare-split : (k : ℕ) (t : List Sign) → anyOf (isBare k) t ≡ true → t ≡ upTo (isBare k) t ++ (bare k ∷ past (isBare k) t)
+bare-split k t e =
+    let r = any-split (isBare k) t e in
+    r .2 ∙ ap (λ (x : Sign). upTo (isBare k) t ++ (x ∷ past (isBare k) t)) (bare-is k (r .0) (r .1))
 
 -- ---- signs of appended texts
 

@@ -270,18 +270,19 @@ pub decimal-no : (most : ℕ) (s : List ℕ) → isDecimal most s ≡ false → 
 unfolding decimalOf
 decimal-no most s e = rw e
 
+-- b says whether there is a number, and w which
+pub told-is : (b : Bool) (v w : ℕ) → Is v ≡ cond b (Is w) No → (b ≡ true) × (v ≡ w)
+told-is true v w e = (refl, cc)
+told-is false v w e = absurd (let z : _≡_ {A = ℕ} 0 1 = cc in omega arith)
+
+pub told-no : (b : Bool) (w : ℕ) → No ≡ cond b (Is w) No → b ≡ false
+told-no true w e = absurd (let z : _≡_ {A = ℕ} 0 1 = cc in omega arith)
+told-no false w e = refl
+
 pub is-decimal : (most : ℕ) (s : List ℕ) (v : ℕ) → Is v ≡ decimalOf most s → (isDecimal most s ≡ true) × (v ≡ valueFrom 0 s)
 unfolding decimalOf
-is-decimal most s v e = go (isDecimal most s) refl e
-  where
-    go : (t : Bool) → isDecimal most s ≡ t → Is v ≡ cond t (Is (valueFrom 0 s)) No → (t ≡ true) × (v ≡ valueFrom 0 s)
-    go true p q = (refl, cc)
-    go false p q = absurd (let z : _≡_ {A = ℕ} 0 1 = cc in omega arith)
+is-decimal most s v e = told-is (isDecimal most s) v (valueFrom 0 s) e
 
 pub no-decimal : (most : ℕ) (s : List ℕ) → No ≡ decimalOf most s → isDecimal most s ≡ false
 unfolding decimalOf
-no-decimal most s e = go (isDecimal most s) refl e
-  where
-    go : (t : Bool) → isDecimal most s ≡ t → No ≡ cond t (Is (valueFrom 0 s)) No → t ≡ false
-    go true p q = absurd (let z : _≡_ {A = ℕ} 0 1 = cc in omega arith)
-    go false p q = refl
+no-decimal most s e = told-no (isDecimal most s) (valueFrom 0 s) e

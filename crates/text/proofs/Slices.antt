@@ -28,6 +28,9 @@ module _ {A : Type 0} (l : List A) where
   pub length-between : (a n : ℕ) → a + n ≤ length l → length (take n (drop a l)) ≡ n
   length-between a n h = let e = length-drop a l in length-take-le n (drop a l) (omega arith)
 
+  pub length-part : (a n : ℕ) → a + n ≤ length l → length (take (a + n - a) (drop a l)) ≡ n
+  length-part a n h = ap length (part-between a n) ∙ length-between a n h
+
   -- a part and what follows it are the rest of the list
   pub part-rest : (a n : ℕ) → take n (drop a l) ++ drop (a + n) l ≡ drop a l
   part-rest a n = ap (λ (r : List A). take n (drop a l) ++ r) (sym (drop-drop n a l)) ∙ take-append-drop n (drop a l)

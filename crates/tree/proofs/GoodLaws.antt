@@ -9,10 +9,11 @@ use lib.ListN.{length, getD, take, drop, length-drop}
 use lib.Seq.{getD-drop}
 use Rattle.text.specs.Bytes.{isLetter}
 use Rattle.text.specs.Lists.{allOf, anyOf}
-use Rattle.text.proofs.Basics.{or-l, or-r}
+use Rattle.text.proofs.Basics.{no-case, either}
 use Rattle.tree.specs.Tree.{parentIn, tagLenIn, twin, holds, badRecord, records, checkFrom, checkTree, recordAt, parent, tag, number}
 use Rattle.tree.specs.declared.Checked.{Checked}
 use Rattle.tree.specs.declared.Checked.the-variants.{Good, Bad}
+use Rattle.tree.proofs.CheckLaws.{any-nth}
 
 not-bad : (b : Bool) (p : ℕ) (x : Checked) → cond b (Bad p) x ≡ Good → (b ≡ false) × (x ≡ Good)
 not-bad true p x e = let z : _≡_ {A = ℕ} 0 1 = cc in absurd (omega arith)
@@ -20,10 +21,7 @@ not-bad false p x e = (refl, e)
 
 -- where none of the tests holds, each fails
 none-at : (l : List Bool) (i : ℕ) → anyOf holds l ≡ false → getD l i false ≡ false
-unfolding anyOf
-none-at [] i e = refl
-none-at (x ∷ l) zero e = or-l x (anyOf holds l) e
-none-at (x ∷ l) (suc i) e = none-at l i (or-r x (anyOf holds l) e)
+none-at l i e = either (getD l i false) (λ y. no-case (sym (any-nth l i y) ∙ e)) (λ y. y)
 
 -- record j of n that follow the first k
 abbrev isBad : List ℕ → ℕ → Bool

@@ -15,8 +15,8 @@ use Rattle.text.specs.Bytes.{bytes, sameBytes, isLetter, isDigit}
 use Rattle.text.specs.Lists.{allOf, anyOf, parts, each, between, isNil, runLen}
 use Rattle.text.specs.Decimal.{valueFrom, isDecimal, digits}
 use Rattle.text.specs.Room.{wrote}
-use Rattle.text.proofs.Basics.{and-l, and-r, and-in, or-l, or-r, or-in-l, or-in-r, no-case, neg-in, either, same-eq, same-refl, all-append, any-append, parts-between}
-use Rattle.text.proofs.Classes.{letter-bounds, digit-bounds, digit-no-letter}
+use Rattle.text.proofs.Basics.{and-l, and-r, and-in, or-l, or-r, or-in-l, or-in-r, no-case, neg-in, either, same-eq, same-refl, all-append, any-append, parts-between, all-none}
+use Rattle.text.proofs.Classes.{letter-bounds, digit-bounds, digit-no-letter, other-byte}
 use Rattle.text.proofs.Decimals.{digits-all, digits-some, digits-first, digits-two, value-two}
 use Rattle.text.proofs.Slices.{drop-take}
 use Rattle.text.proofs.Writes.{filled-room}
@@ -31,6 +31,7 @@ use Rattle.tree.specs.Resolve.{nodesFrom, isTagged, isNamed, namedUnder,
 use Rattle.tree.specs.Ways.{waysUp, segmentsTo}
 use Rattle.tree.proofs.GoodLaws.{good-node, good-length, byte-of}
 use Rattle.tree.proofs.UpLaws.{length-tag}
+use Rattle.forms.proofs.TargetBytes.{nil-segment}
 
 -- ---- no two nodes of a good tree are the same
 
@@ -134,19 +135,10 @@ run-letters [] (x ∷ b) e f n = rw (digit-no-letter x (and-l (isDigit x) (allOf
 run-letters (x ∷ a) b e f n = rw (and-l (isLetter x) (allOf isLetter a) e) (ap suc (run-letters a b (and-r (isLetter x) (allOf isLetter a) e) f n))
 
 letter-solid : (b : ℕ) → isLetter b ≡ true → isSeparator b ≡ false
-letter-solid b e = go (eqb b 92) refl
-  where
-    go : (x : Bool) → eqb b 92 ≡ x → eqb b 47 || eqb b 92 ≡ false
-    go true q = no-case (sym (ap isLetter (sym (eqb-true b 92 q)) ∙ e))
-    go false q = let w = letter-bounds b e in simp (q, ne-eqb b 47 (λ z. omega arith))
+letter-solid b e = simp (other-byte isLetter 47 b true refl e, other-byte isLetter 92 b true refl e)
 
 digit-solid : (b : ℕ) → isDigit b ≡ true → isSeparator b ≡ false
-digit-solid b e = let w = digit-bounds b e in simp (ne-eqb b 47 (λ z. omega arith), ne-eqb b 92 (λ z. omega arith))
-
-all-solid : (f : ℕ → Bool) → ((b : ℕ) → f b ≡ true → isSeparator b ≡ false) → (s : List ℕ) → allOf f s ≡ true → anyOf isSeparator s ≡ false
-unfolding allOf anyOf
-all-solid f u [] e = refl
-all-solid f u (b ∷ s) e = simp (u b (and-l (f b) (allOf f s) e), all-solid f u s (and-r (f b) (allOf f s) e))
+digit-solid b e = simp (other-byte isDigit 47 b true refl e, other-byte isDigit 92 b true refl e)
 
 -- it begins with a letter, so it is neither `.` nor `..`
 no-dot : (a b c : List ℕ) → 1 ≤ length a → allOf isLetter a ≡ true → sameBytes (a ++ b) (46 ∷ c) ≡ false
@@ -189,7 +181,7 @@ module _ (a : List ℕ) (n : ℕ) (some′ : 1 ≤ length a) (short : length a �
   segment-form = or-in-r (sameBytes (a ++ digits n) (bytes ".")) (sameBytes (a ++ digits n) (bytes "..") || isNumbered (a ++ digits n)) (or-in-r (sameBytes (a ++ digits n) (bytes "..")) (isNumbered (a ++ digits n)) numbered)
 
   pub segment-solid : anyOf isSeparator (a ++ digits n) ≡ false
-  segment-solid = any-append isSeparator a (digits n) (all-solid isLetter letter-solid a letters) (all-solid isDigit digit-solid (digits n) (digits-all n))
+  segment-solid = any-append isSeparator a (digits n) (all-none isLetter isSeparator letter-solid a letters) (all-none isDigit isSeparator digit-solid (digits n) (digits-all n))
 
 -- ---- the way from the root
 
@@ -307,10 +299,6 @@ unfolding areSegments allOf
 segments-all s [] e = or-in-l (isSegment s) (isStarred s) (and-l (isSegment s) true e)
 segments-all s (r ∷ rs) e =
     and-in (isSegment s) (areSegments (r ∷ rs)) (and-l (isSegment s) (allOf isSegment (r ∷ rs)) e) (segments-all r rs (and-r (isSegment s) (allOf isSegment (r ∷ rs)) e))
-
-nil-segment : isSegment [] ≡ false
-unfolding isSegment isNumbered sameBytes tagLen runLen bytes
-nil-segment = refl
 
 some-text : (s r : List ℕ) → isSegment s ≡ true → isNil (s ++ r) ≡ false
 some-text [] r e = no-case (sym e ∙ nil-segment)

@@ -112,6 +112,13 @@ shorts-many : length shortNames ≡ 12
 unfolding shortNames
 shorts-many = refl
 
+-- whichever number: a table's name is no longer than its longest
+short-name : (most : ℕ) (ns : List (List ℕ)) (n : ℕ) → allOf (λ x. leb (length x) most) ns ≡ true → length (getD ns n []) ≤ most
+unfolding allOf
+short-name most [] n h = omega arith
+short-name most (x ∷ ns) zero h = leb-true (length x) most (and-l (leb (length x) most) (allOf (λ y. leb (length y) most) ns) h)
+short-name most (x ∷ ns) (suc n) h = short-name most ns n (and-r (leb (length x) most) (allOf (λ y. leb (length y) most) ns) h)
+
 -- ---- verbs
 
 verb-at : (i : ℕ) → verbName (suc i) ≡ getD verbNames i []
@@ -123,6 +130,10 @@ pub verb-shape : (k : ℕ) → 1 ≤ k → k ≤ 13
     → (isNil (verbName k) ≡ false) × (allOf isLower (verbName k) ≡ true) × (allOf isWord (verbName k) ≡ true) × (length (verbName k) ≤ 7)
 verb-shape zero a b = absurd (omega arith)
 verb-shape (suc i) a b = shape-says 7 (verbName (suc i)) (ap (shape 7) (verb-at i) ∙ all-at (shape 7) verbNames [] verbs-shape i (omega (arith, verbs-many)))
+
+pub verb-short : (n : ℕ) → length (verbName n) ≤ 7
+unfolding verbName verbNames bytes allOf
+verb-short n = short-name 7 ([] ∷ verbNames) n refl
 
 -- the name at k is recognised as k
 pub verb-again : (k : ℕ) → 1 ≤ k → k ≤ 13 → verbOf (verbName k) ≡ some k
@@ -168,6 +179,10 @@ pub option-shape : (k : ℕ) → 1 ≤ k → k ≤ 12
 option-shape zero a b = absurd (omega arith)
 option-shape (suc i) a b =
     shape-says 11 (optionName (suc i)) (ap (shape 11) (option-at i) ∙ all-at (shape 11) longNames [] longs-shape i (omega (arith, longs-many)))
+
+pub option-short : (n : ℕ) → length (optionName n) ≤ 11
+unfolding optionName longNames bytes allOf
+option-short n = short-name 11 ([] ∷ longNames) n refl
 
 -- the long name at k is recognised as k
 pub option-again : (k : ℕ) → 1 ≤ k → k ≤ 12 → optionOf (optionName k) ≡ some k

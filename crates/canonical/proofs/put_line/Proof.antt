@@ -7,14 +7,14 @@ use mathlib.Core.Bool.{true, false}
 use native.Mathlib.Omega.{arith}
 use lib.ListN.{length, take, drop, length-append}
 use lib.Seq.{sets}
-use Rattle.canonical.proofs.WriteLaws.{then-left, after-sets}
+use Rattle.canonical.proofs.WriteLaws.{then-left}
 use Rattle.canonical.specs.Written.{written, gap, writtenIn, totalFrom}
 use Rattle.reading.specs.Cursor.{left, start}
 use Rattle.reading.specs.Shown.{verdictIn}
-use Rattle.reading.proofs.Steps.{step-end, step-refused}
-use Rattle.reading.proofs.Folds.{refused-fine}
+use Rattle.reading.proofs.Steps.{step-end, step-refused, Stepped, step-part}
+use Rattle.reading.proofs.Folds.{refused-fine, verdict-part}
 use Rattle.text.specs.declared.Verdict.the-variants.{Fine}
-use Rattle.canonical.proofs.LineLaws.{Taken, step-takes, slice-is, slice-length, gap-short, step-written, step-verdict, step-total, end-total, end-written}
+use Rattle.canonical.proofs.LineLaws.{gap-short, step-written, step-total, end-total, end-written}
 use Rattle.canonical.proofs.put_line.Statement.{statement}
 use Rattle.canonical.proofs.put_line.Tie as tie
 use Rattle.canonical.proofs.put_line.Reads as reads
@@ -23,6 +23,8 @@ use Rattle.canonical.proofs.put_gap.Reads as put-gap-reads
 use Rattle.canonical.proofs.put_term.Reads as put-term-reads
 use Rattle.reading.proofs.Cursor.begin.Reads as begin-reads
 use Rattle.reading.proofs.Cursor.next.Reads as next-reads
+use Rattle.text.proofs.Writes.{then-sets}
+use Rattle.text.proofs.Slices.{part-between, length-part}
 
 abbrev Inv-loop : tie.InvT-loop
 Inv-loop line out₀ c₀ w₀ first₀ out c w first =
@@ -38,8 +40,8 @@ abbrev μ-loop : tie.MeasureT-loop
 
 -- what the step that gave a part says
 taken : (c : tie.After-g2 Inv-loop μ-loop)
-    → Taken (c .before .before .before .before .before .before .before .args .line .now) (c .before .before .before .loop .c) (c .g2 .given .0 .0) (c .g2 .given .0 .1 .0) (c .g2 .given .0 .1 .1 .0) (c .before .before .next .result .next)
-taken c = step-takes (c .before .before .before .before .before .before .before .args .line .now) (c .before .before .before .loop .c) (c .before .before .next .result) (c .before .before .next .ensures) _ _ _ (c .g2 .given .1)
+    → Stepped (c .before .before .before .before .before .before .before .args .line .now) (c .before .before .before .loop .c) (c .g2 .given .0 .0) (c .g2 .given .0 .1 .0) (c .g2 .given .0 .1 .1 .0) (c .before .before .next .result .next)
+taken c = step-part (c .before .before .before .before .before .before .before .args .line .now) (c .before .before .before .loop .c) (c .before .before .next .result) (c .before .before .next .ensures) _ _ _ (c .g2 .given .1)
 
 begin-requires : tie.Need-begin-requires Inv-loop μ-loop
 begin-requires c κs = search needs
@@ -125,7 +127,7 @@ put-term-requires c κs =
     let l = g .before .before .before .loop in
     let from = g .g2 .given .0 .1 .0 in
     let len = g .g2 .given .0 .1 .1 .0 in
-    let m = slice-length (a .line .now) from len (t .fits) in
+    let m = length-part (a .line .now) from len (t .fits) in
     let v = c .before .before .before .before .put-gap .ensures .0 in
     let k = gap-short (l .first) in
     (omega (arith, t .fits), omega (arith, t .fits))
@@ -155,14 +157,14 @@ loop-again c =
     let line = a .line .now in
     let x = g .g2 .given .0 .0 in
     let after = g .before .before .next .result .next in
-    let m = slice-length line from len (t .fits) in
-    let e = slice-is line from len in
+    let m = length-part line from len (t .fits) in
+    let e = part-between line from len in
     let b = written x (take len (drop from line)) in
     let s : p .last .0 ≡ sets (q .last .0) (q .result) b = p .ensures .1 ∙ ap (λ (z : List ℕ). sets (q .last .0) (q .result) (written x z)) e in
-    let o = after-sets (l .out) (q .last .0) (p .last .0) (gap (l .first)) b (l .w) (q .result) (q .ensures .1) (q .ensures .0) s in
+    let o = then-sets (l .out) (gap (l .first)) (q .last .0) (p .last .0) (l .w) (q .result) (q .ensures .1) (q .ensures .0) b s in
     let r : p .result ≡ q .result + length b = p .ensures .0 ∙ ap (λ (z : List ℕ). q .result + length (written x z)) e in
     let d : p .result ≡ l .w + length (gap (l .first) ++ b) = omega (arith, r, q .ensures .0, length-append (gap (l .first)) b) in
-    let v = step-verdict line (l .c) after x from len t (l .first) in
+    let v = verdict-part line (l .c) x from len after t in
     let k = gap-short (l .first) in (
       ap (λ (n : ℕ). totalFrom n false (left line after)) d ∙ sym (step-total line (l .c) after x from len t (l .first) (l .w)) ∙ l .inv .0,
       sym v ∙ l .inv .1,

@@ -7,8 +7,7 @@ use mathlib.Core.Bool.{Bool, true, false}
 use native.Mathlib.Omega.{arith}
 use lib.ListN.{length, replicate, length-append}
 use lib.Seq.{sets, length-take-le}
-use Rattle.canonical.proofs.WriteLaws.{after-sets}
-use Rattle.text.proofs.Writes.{held-is}
+use Rattle.text.proofs.Writes.{held-is, then-sets}
 use Rattle.canonical.specs.Written.{gravedAll, leadsDash, dashGrave, placeIn}
 use Rattle.terms.specs.Signs.{meant}
 use Rattle.terms.proofs.TermLaws.{meant-length}
@@ -68,7 +67,7 @@ returns c =
     let t : v .last .0 ≡ sets (d .last .0) (d .result) (gravedAll false (meant (a .s .now))) = v .ensures .1 ∙ ap (λ (z : List ℕ). sets (d .last .0) (d .result) (gravedAll false z)) h in
     let l : v .result ≡ d .result + length (gravedAll false (meant (a .s .now))) = v .ensures .0 ∙ ap (λ (z : List ℕ). d .result + length (gravedAll false z)) h in (
       omega (arith, length-append (dashGrave (leadsDash (a .s .now))) (gravedAll false (meant (a .s .now))), w, l),
-      after-sets (a .out .now) (d .last .0) (v .last .0) (dashGrave (leadsDash (a .s .now))) (gravedAll false (meant (a .s .now))) (a .at) (d .result) s w t,
+      then-sets (a .out .now) (dashGrave (leadsDash (a .s .now))) (d .last .0) (v .last .0) (a .at) (d .result) s w (gravedAll false (meant (a .s .now))) t,
       omega (arith, v .ensures .2, ap length h, w, dash-short (leadsDash (a .s .now))),
     )
 

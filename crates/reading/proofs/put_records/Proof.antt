@@ -12,7 +12,7 @@ use Rattle.reading.proofs.Steps.{step-part, step-refused, step-end, rec
 use Rattle.reading.specs.Reading.{Reading}
 use Rattle.reading.specs.Records.{recordsOf}
 use Rattle.reading.specs.Shown.{verdictIn, recordShown, recordsIn, totalFrom}
-use Rattle.reading.proofs.Folds.{size-most, put-more, total-part, records-part, verdict-part, refused-fine}
+use Rattle.reading.proofs.Folds.{size-most, total-part, records-part, verdict-part, refused-fine}
 use Rattle.reading.proofs.put_records.Statement.{statement}
 use Rattle.reading.proofs.put_records.Tie as tie
 use Rattle.reading.proofs.put_records.Reads as reads
@@ -21,6 +21,7 @@ use Rattle.reading.proofs.Cursor.begin.Reads as begin-reads
 use Rattle.reading.proofs.Cursor.next.Reads as next-reads
 use Rattle.reading.proofs.put_record.Reads as put-record-reads
 use Rattle.reading.proofs.record_size.Reads as record-size-reads
+use Rattle.text.proofs.Writes.{sets-rest}
 
 abbrev Inv-loop : tie.InvT-loop
 Inv-loop line out₀ c₀ w₀ out c w =
@@ -122,7 +123,7 @@ loop-again c =
     let v = verdict-part line (l .loop .c) _ _ _ after w in (
       rw (z .ensures) (sym (total-part line (l .loop .c) _ _ _ after w (l .loop .w)) ∙ l .loop .inv .0),
       sym v ∙ l .loop .inv .1,
-      λ f. put-more (l .loop .out) (p .put-record .last .0) (l .loop .w) (z .result) (recordShown x a n) (recordsIn (left line after)) (p .put-record .ensures) (z .ensures ∙ sym (record-size x a n))
+      λ f. sets-rest (l .loop .out) (recordShown x a n) (p .put-record .last .0) (l .loop .w) (l .loop .w + z .result) (p .put-record .ensures) (ap (λ (k : ℕ). l .loop .w + k) (z .ensures ∙ sym (record-size x a n))) (recordsIn (left line after))
           ∙ sym (ap (sets (l .loop .out) (l .loop .w)) (records-part line (l .loop .c) _ _ _ after w (l .loop .inv .1 ∙ f))) ∙ l .loop .inv .2 f,
       omega arith,
       omega arith,
