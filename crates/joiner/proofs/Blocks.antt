@@ -1,4 +1,5 @@
--- Sixteen bytes at a time: what a block is of a part, what it has not, what it leaves in a buffer, and a run of plain bytes.
+-- Sixteen bytes at a time: what a block is of a part, what it has not, what it leaves in a buffer, and a run of plain bytes, of a line
+-- that there is room for and of one that is too long.
 -- Assumes nothing.
 use Prim.Native.Nat.{ℕ, suc, _+_, _<_, _≤_}
 use native.Mathlib.Omega.{arith}
@@ -6,13 +7,14 @@ use native.Mathlib.Nat.{add-zero}
 use native.Mathlib.Numerals.{add-one}
 use mathlib.Core.Path.{_≡_, refl, sym, ap, _∙_}
 use mathlib.Core.List.{List, [], _∷_, _++_}
-use mathlib.Core.Bool.{Bool, true, false, not, _||_, true≢false, false≢true}
+use mathlib.Core.Bool.{Bool, true, false, not, _||_, cond, true≢false, false≢true}
 use lib.ListN.{length, getD, take, drop, set, length-drop, take-append-drop}
-use lib.Seq.{sets, drop-cons, drop-drop, take-suc, take-suc-set, getD-drop, length-take-le}
+use lib.Seq.{sets, drop-cons, drop-drop, take-suc, take-suc-set, getD-drop, length-take-le, set-out}
 use lib.Dec.{ltb, eqb}
-use borrow.Author.Tests.{ltb-true, ltb-false, eqb-false}
-use Rattle.joiner.specs.Lines.{kindOf, isPlain}
-use Rattle.joiner.specs.Step.{st, stored, Step}
+use borrow.Author.Tests.{ltb-true, ltb-false, eqb-false, le-ltb, le-leb}
+use Rattle.joiner.specs.declared.Outcome.the-variants.{More}
+use Rattle.joiner.specs.Lines.{plain, kindOf, isPlain}
+use Rattle.joiner.specs.Step.{st, byteStep, more, stored, Step}
 use Rattle.joiner.specs.Join.{Ran, run}
 use Rattle.joiner.proofs.Laws.{isMore, kind-plain, is-plain, cons-more, plain-step}
 
@@ -79,14 +81,63 @@ plain-run (x ∷ xs) ys n h b l p =
     ∙ ap (λ (m : ℕ). run m (st (suc h + length xs) false false false) (sets (set b h x) (suc h) xs) ys) s
     ∙ ap (λ (m : ℕ). run (n + suc (length xs)) (st m false false false) (sets (set b h x) (suc h) xs) ys) t
 
--- a turn of the loop of `copy_blocks`: a block of a part that has plain bytes only
-pub turn-block : (R : Ran) (i h : ℕ) (b p d : List ℕ) → i + 16 ≤ length p → h + 16 ≤ 1024 → R ≡ run i (st h false false false) b (drop i p)
-    → d ≡ take 16 (drop i p) → ((k : ℕ) → k < 16 → isPlain (kindOf (getD d k 0)) ≡ true)
-    → R ≡ run (i + 16) (st (h + 16) false false false) (sets b h d) (drop (i + 16) p)
-turn-block R i h b p d l m inv e q =
-    let w : length d ≡ 16 = ap length e ∙ length-take-le 16 (drop i p) (omega (arith, length-drop i p)) in
+-- ---- a run of plain bytes that a line which is too long takes none of
+
+over-step : (h x : ℕ) → 1024 ≤ h → kindOf x ≡ plain
+    → byteStep (st h false false true) x ≡ record { state = st h false false true; put = x ∷ []; out = More }
+unfolding byteStep more
+over-step h x l e = simp (e, le-ltb h 1024 l, le-leb 1024 h l)
+
+over-run : (xs ys : List ℕ) (n h : ℕ) (b : List ℕ) → 1024 ≤ h → length b ≡ 1024 → Plain xs
+    → run n (st h false false true) b (xs ++ ys) ≡ run (n + length xs) (st h false false true) b ys
+over-run [] ys n h b l m p = rw (add-zero n) refl
+over-run (x ∷ xs) ys n h b l m p =
+    let f = over-step h x l (is-plain (kindOf x) (p 0 (omega arith))) in
+    let s : suc n + length xs ≡ n + suc (length xs) = omega arith in
+    cons-more n (st h false false true) b x (xs ++ ys) (ap (λ (r : Step). isMore (r .out)) f)
+    ∙ ap (λ (r : Step). run (suc n) (r .state) (stored h b (r .put)) (xs ++ ys)) f
+    ∙ ap (λ (d : List ℕ). run (suc n) (st h false false true) d (xs ++ ys)) (set-out b h x (omega arith))
+    ∙ over-run xs ys (suc n) h b l m (λ k w. p (suc k) (omega arith))
+    ∙ ap (λ (m : ℕ). run m (st h false false true) b ys) s
+
+-- ---- a turn of the loop of `pass_blocks`: a block of a part that has plain bytes only
+
+pub turn-block : (o : Bool) (R : Ran) (i h r : ℕ) (b c p d : List ℕ) → i + 16 ≤ length p → (o ≡ false → h + 16 ≤ 1024) → (o ≡ true → 1024 ≤ h)
+    → length b ≡ 1024 → R ≡ run i (st h false false o) b (drop i p) → d ≡ take 16 (drop i p)
+    → ((k : ℕ) → k < 16 → isPlain (kindOf (getD d k 0)) ≡ true) → r ≡ cond o h (h + 16) → c ≡ cond o b (sets b h d)
+    → R ≡ run (i + 16) (st r false false o) c (drop (i + 16) p)
+turn-block o R i h r b c p d l small large m inv e q f g =
     inv
-    ∙ ap (run i (st h false false false) b) (sym (take-append-drop 16 (drop i p)) ∙ ap (λ (t : List ℕ). t ++ drop 16 (drop i p)) (sym e))
-    ∙ plain-run d (drop 16 (drop i p)) i h b (omega arith) (λ k v. q k (omega arith))
-    ∙ ap (λ (n : ℕ). run (i + n) (st (h + n) false false false) (sets b h d) (drop 16 (drop i p))) w
-    ∙ ap (run (i + 16) (st (h + 16) false false false) (sets b h d)) (drop-drop 16 i p)
+    ∙ ap (run i (st h false false o) b) (sym (take-append-drop 16 (drop i p)) ∙ ap (λ (t : List ℕ). t ++ drop 16 (drop i p)) (sym e))
+    ∙ go o small large
+    ∙ rw (f, g, drop-drop 16 i p) refl
+  where
+    w : length d ≡ 16
+    w = ap length e ∙ length-take-le 16 (drop i p) (omega (arith, length-drop i p))
+
+    go : (o : Bool) → (o ≡ false → h + 16 ≤ 1024) → (o ≡ true → 1024 ≤ h)
+        → run i (st h false false o) b (d ++ drop 16 (drop i p))
+        ≡ run (i + 16) (st (cond o h (h + 16)) false false o) (cond o b (sets b h d)) (drop 16 (drop i p))
+    go true s t =
+        over-run d (drop 16 (drop i p)) i h b (t refl) m (λ k v. q k (omega (arith, w)))
+        ∙ ap (λ (n : ℕ). run (i + n) (st h false false true) b (drop 16 (drop i p))) w
+    go false s t =
+        let r : h + 16 ≤ 1024 = s refl in
+        plain-run d (drop 16 (drop i p)) i h b (omega (arith, w)) (λ k v. q k (omega (arith, w)))
+        ∙ ap (λ (n : ℕ). run (i + n) (st (h + n) false false false) (sets b h d) (drop 16 (drop i p))) w
+
+-- what is held and what is left to pass after it
+pub kept-small : (o : Bool) (end at h : ℕ) → at + 16 ≤ end → (o ≡ false → end + h ≤ at + 1024) → o ≡ false → end + cond o h (h + 16) ≤ at + 16 + 1024
+kept-small true end at h l s e = absurd (true≢false e)
+kept-small false end at h l s e = let r : end + h ≤ at + 1024 = s refl in omega arith
+
+pub kept-large : (o : Bool) (h g : ℕ) → (o ≡ true → h ≡ g) → o ≡ true → cond o h (h + 16) ≡ g
+kept-large true h g s e = s refl
+kept-large false h g s e = absurd (false≢true e)
+
+-- ---- bytes after blocks, of a line that is not too long
+
+pub then-bytes : (o : Bool) (R : Ran) (i j h g : ℕ) (b c d e : List ℕ) → o ≡ false → R ≡ run i (st h false false o) b d
+    → run i (st h false false false) b d ≡ run j (st g false false false) c e → R ≡ run j (st g false false o) c e
+then-bytes true R i j h g b c d e f p q = absurd (true≢false f)
+then-bytes false R i j h g b c d e f p q = p ∙ q

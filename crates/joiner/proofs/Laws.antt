@@ -162,7 +162,7 @@ module _ (R : Ran) (i : ℕ) (s : Joiner) (b p : List ℕ) (h : i < length p) (i
       ∙ cons-stop i s b (getD p i 0) (drop (suc i) p) (ap (λ (q : Stepped). isMore (q .outcome)) (sym (d .0)) ∙ m)
       ∙ rw (d .0, d .1, add-one i) refl
 
--- a turn of the loop of `copy`: a plain byte where there is room
+-- a turn of the loop of `copy_bytes`: a plain byte where there is room
 pub plain-step : (h x : ℕ) → h < 1024 → kindOf x ≡ plain
     → byteStep (st h false false false) x ≡ record { state = st (h + 1) false false false; put = x ∷ []; out = More }
 unfolding byteStep more
@@ -180,15 +180,15 @@ turn-plain R i h b p l m inv e =
     ∙ ap (λ (t : Step). run (suc i) (t .state) (stored h b (t .put)) (drop (suc i) p)) f
     ∙ rw (add-one i) refl
 
--- a run of plain bytes from a state that has no flag
-pub unflagged : (s : Joiner) (i j h : ℕ) (b c d e : List ℕ) → s .grave ≡ false → s .cr ≡ false → s .over ≡ false
-    → run i (st (s .held) false false false) b d ≡ run j (st h false false false) c e
+-- a run of plain bytes from a state in which no GRAVE waits and no CR was just seen
+pub unmarked : (s : Joiner) (i j h : ℕ) (b c d e : List ℕ) → s .grave ≡ false → s .cr ≡ false
+    → run i (st (s .held) false false (s .over)) b d ≡ run j (st h false false (s .over)) c e
     → run i s b d ≡ run j (st h (s .grave) (s .cr) (s .over)) c e
-unflagged s i j h b c d e = go (s .grave) (s .cr) (s .over)
+unmarked s i j h b c d e = go (s .grave) (s .cr)
   where
-    go : (g r o : Bool) → g ≡ false → r ≡ false → o ≡ false → run i (st (s .held) false false false) b d ≡ run j (st h false false false) c e
-        → run i (st (s .held) g r o) b d ≡ run j (st h g r o) c e
-    go g r o p q w k = rw (p, q, w) k
+    go : (g r : Bool) → g ≡ false → r ≡ false → run i (st (s .held) false false (s .over)) b d ≡ run j (st h false false (s .over)) c e
+        → run i (st (s .held) g r (s .over)) b d ≡ run j (st h g r (s .over)) c e
+    go g r p q k = rw (p, q) k
 
 -- a call that is not refused has a buffer of 1,024 bytes, and answers as its run does
 pub fits-length : (s : Joiner) (b : List ℕ) → eqb (length b) 1024 && reachable s ≡ true → length b ≡ 1024
@@ -197,6 +197,13 @@ fits-length s b e = go (eqb (length b) 1024) (eqb-true (length b) 1024) e
     go : (t : Bool) → (t ≡ true → length b ≡ 1024) → t && reachable s ≡ true → length b ≡ 1024
     go true k e = k refl
     go false k e = absurd (false≢true e)
+
+pub fits-state : (s : Joiner) (b : List ℕ) → eqb (length b) 1024 && reachable s ≡ true → reachable s ≡ true
+fits-state s b e = go (eqb (length b) 1024) e
+  where
+    go : (t : Bool) → t && reachable s ≡ true → reachable s ≡ true
+    go true e = e
+    go false e = absurd (false≢true e)
 
 pub answered : (s : Joiner) (b p : List ℕ) (R : Ran) → eqb (length b) 1024 && reachable s ≡ true → run 0 s b p ≡ R
     → (R .answer ≡ joinOf s b p .answer) × (R .buffer ≡ joinOf s b p .buffer)

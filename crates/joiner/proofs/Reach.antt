@@ -12,8 +12,9 @@ use lib.ListN.{replicate}
 use lib.Dec.{ltb, leb, eqb}
 use borrow.Author.Tests.{lt-ltb, le-ltb, le-leb, lt-leb, ltb-true, ltb-false, leb-true, leb-false}
 use Rattle.joiner.specs.declared.Joiner.{Joiner}
+use Rattle.joiner.specs.declared.Stepped.{Stepped}
 use Rattle.joiner.specs.Lines.{Kind, CR, LF, GRAVE, plain, kindOf}
-use Rattle.joiner.specs.Step.{byteStep, stepBy, st, start, reachable, more, pushed, stateAfter}
+use Rattle.joiner.specs.Step.{byteStep, stepBy, st, start, reachable, more, pushed, stateAfter, steppedOf}
 
 pub after-append : (s : Joiner) (p q : List ℕ) → stateAfter s (p ++ q) ≡ stateAfter (stateAfter s p) q
 unfolding stateAfter
@@ -112,6 +113,10 @@ of-fine s f = simp (le-leb (s .held) 1024 (f .within)) (go (s .grave) (s .cr) (s
     go true false false a b = refl
     go false r true a b = simp (le-leb 1024 (s .held) (a refl))
     go false r false a b = refl
+
+-- what `step` answers is a state that is not refused
+pub step-reachable : (s : Joiner) (x : ℕ) (r : Stepped) → reachable s ≡ true → r ≡ steppedOf (byteStep s x) → reachable (r .state) ≡ true
+step-reachable s x r h e = rw e (of-fine (byteStep s x .state) (fine-step s x (to-fine s h)))
 
 -- ---- a capture for each fine state
 

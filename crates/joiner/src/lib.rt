@@ -1,6 +1,6 @@
 // Joins the bytes of a console capture into lines.
 ghost use mathlib.Core.Path.{_≡_};
-ghost use mathlib.Core.Bool.{true, false, _&&_};
+ghost use mathlib.Core.Bool.{true, false, _&&_, cond};
 ghost use lib.Dec.{eqb};
 ghost use lib.ListN.{length, getD, set, take, drop};
 ghost use lib.Seq.{sets};
@@ -43,7 +43,7 @@ struct Stepped {
 }
 
 // Where a run of plain bytes has come to: how many bytes of the line are held, and the place in the part.
-struct Copied {
+struct Passed {
     held: usize,
     at: usize,
 }
@@ -64,14 +64,17 @@ fn ordinary(x: u8) -> bool
     true
 }
 
-// The place up to which a part may be copied from `at` on, with `held` bytes of the line held.
-fn limit(held: usize, length: usize, at: usize) -> usize
+// The place up to which a part may be passed from `at` on: as far as there is room, or, of a line that is too long, to its end.
+fn limit(over: bool, held: usize, length: usize, at: usize) -> usize
     requires { ⌜ held ≤ 1024 ⌝ }
     requires { ⌜ at ≤ length ⌝ }
     ensures { λ r. ⌜ at ≤ r ⌝ }
     ensures { λ r. ⌜ r ≤ length ⌝ }
-    ensures { λ r. ⌜ r + held ≤ at + 1024 ⌝ }
+    ensures { λ r. ⌜ (over ≡ false → r + held ≤ at + 1024) ⌝ }
 {
+    if over {
+        return length;
+    }
     let room = 1024 - held;
     if room < length - at {
         return at + room;
@@ -93,7 +96,7 @@ fn block(part: &[u8], at: usize) -> [u8; 16]
     b
 }
 
-// Whether a block has a byte. The loop has no other way out, so that all sixteen are compared at once.
+// Whether a block has a byte. The loop does not end at the first, so that all sixteen are compared at once.
 fn has(b: [u8; 16], x: u8) -> bool
     ensures { λ r. ⌜ (r ≡ false → (k : ℕ) → k < 16 → getD b k 0 ≡ x → ⊥) ⌝ }
 {
@@ -125,8 +128,52 @@ fn put(buffer: &mut [u8], at: usize, b: [u8; 16])
     }
 }
 
-// Copies blocks of plain bytes of the part from `at` on, up to `end`.
-fn copy_blocks(mut held: usize, buffer: &mut [u8], part: &[u8], mut at: usize, end: usize) -> Copied
+// How many bytes are held with a block more, which is stored: of a line that is too long it is not.
+fn keep(over: bool, held: usize, buffer: &mut [u8], b: [u8; 16]) -> usize
+    requires { ⌜ (over ≡ false → held + 16 ≤ length (now buffer)) ⌝ }
+    ensures { λ r. ⌜ r ≡ cond over held (held + 16) ⌝ }
+    ensures { λ r. ⌜ now (buffer .exit) ≡ cond over (now (buffer .entry)) (sets (now (buffer .entry)) held b) ⌝ }
+{
+    if over {
+        return held;
+    }
+    put(buffer, held, b);
+    held + 16
+}
+
+// Passes blocks of plain bytes of the part from `at` on, up to `end`.
+fn pass_blocks(
+    over: bool,
+    mut held: usize,
+    buffer: &mut [u8],
+    part: &[u8],
+    mut at: usize,
+    end: usize,
+) -> Passed
+    requires { ⌜ length (now buffer) ≡ 1024 ⌝ }
+    requires { ⌜ at ≤ end ⌝ }
+    requires { ⌜ end ≤ length (now part) ⌝ }
+    requires { ⌜ (over ≡ false → end + held ≤ at + 1024) ⌝ }
+    requires { ⌜ (over ≡ true → 1024 ≤ held) ⌝ }
+    ensures { λ r. ⌜ at ≤ r .at ⌝ }
+    ensures { λ r. ⌜ r .at ≤ end ⌝ }
+    ensures { λ r. ⌜ (over ≡ false → end + r .held ≤ r .at + 1024) ⌝ }
+    ensures { λ r. ⌜ (over ≡ true → r .held ≡ held) ⌝ }
+    ensures { λ r. ⌜ run at (st held false false over) (now (buffer .entry)) (drop at (now (part .entry))) ≡ run (r .at) (st (r .held) false false over) (now (buffer .exit)) (drop (r .at) (now (part .entry))) ⌝ }
+{
+    while 16 <= end - at {
+        let b = block(part, at);
+        if !all_plain(b) {
+            return Passed { held, at };
+        }
+        held = keep(over, held, buffer, b);
+        at += 16;
+    }
+    Passed { held, at }
+}
+
+// Copies plain bytes of the part from `at` on, up to `end`, one by one.
+fn copy_bytes(mut held: usize, buffer: &mut [u8], part: &[u8], mut at: usize, end: usize) -> Passed
     requires { ⌜ length (now buffer) ≡ 1024 ⌝ }
     requires { ⌜ at ≤ end ⌝ }
     requires { ⌜ end ≤ length (now part) ⌝ }
@@ -136,41 +183,36 @@ fn copy_blocks(mut held: usize, buffer: &mut [u8], part: &[u8], mut at: usize, e
     ensures { λ r. ⌜ end + r .held ≤ r .at + 1024 ⌝ }
     ensures { λ r. ⌜ run at (st held false false false) (now (buffer .entry)) (drop at (now (part .entry))) ≡ run (r .at) (st (r .held) false false false) (now (buffer .exit)) (drop (r .at) (now (part .entry))) ⌝ }
 {
-    while 16 <= end - at {
-        let b = block(part, at);
-        if !all_plain(b) {
-            return Copied { held, at };
+    while at < end {
+        let x = part[at];
+        if !ordinary(x) {
+            return Passed { held, at };
         }
-        put(buffer, held, b);
-        held += 16;
-        at += 16;
+        buffer[held] = x;
+        held += 1;
+        at += 1;
     }
-    Copied { held, at }
+    Passed { held, at }
 }
 
-// Copies plain bytes of the part from `at` on, as long as there is room: no GRAVE waits, no CR was just seen.
-fn copy(held: usize, buffer: &mut [u8], part: &[u8], at: usize) -> Copied
+// Passes plain bytes of the part from `at` on, as many as there is room for: no GRAVE waits, no CR was just seen.
+fn pass_plain(over: bool, held: usize, buffer: &mut [u8], part: &[u8], at: usize) -> Passed
     requires { ⌜ length (now buffer) ≡ 1024 ⌝ }
     requires { ⌜ held ≤ 1024 ⌝ }
+    requires { ⌜ (over ≡ true → 1024 ≤ held) ⌝ }
     requires { ⌜ at ≤ length (now part) ⌝ }
     ensures { λ r. ⌜ at ≤ r .at ⌝ }
     ensures { λ r. ⌜ r .at ≤ length (now (part .entry)) ⌝ }
-    ensures { λ r. ⌜ run at (st held false false false) (now (buffer .entry)) (drop at (now (part .entry))) ≡ run (r .at) (st (r .held) false false false) (now (buffer .exit)) (drop (r .at) (now (part .entry))) ⌝ }
+    ensures { λ r. ⌜ r .held ≤ 1024 ⌝ }
+    ensures { λ r. ⌜ (over ≡ true → 1024 ≤ r .held) ⌝ }
+    ensures { λ r. ⌜ run at (st held false false over) (now (buffer .entry)) (drop at (now (part .entry))) ≡ run (r .at) (st (r .held) false false over) (now (buffer .exit)) (drop (r .at) (now (part .entry))) ⌝ }
 {
-    let end = limit(held, part.len(), at);
-    let c = copy_blocks(held, buffer, part, at, end);
-    let mut to = c.held;
-    let mut from = c.at;
-    while from < end {
-        let x = part[from];
-        if !ordinary(x) {
-            return Copied { held: to, at: from };
-        }
-        buffer[to] = x;
-        to += 1;
-        from += 1;
+    let end = limit(over, held, part.len(), at);
+    let c = pass_blocks(over, held, buffer, part, at, end);
+    if over {
+        return c;
     }
-    Copied { held: to, at: from }
+    copy_bytes(c.held, buffer, part, c.at, end)
 }
 
 impl Joiner {
@@ -278,7 +320,8 @@ impl Joiner {
         }
     }
 
-    // The line goes on after a byte that was no CR: whether a GRAVE waits is as given.
+    // The line goes on after a byte that was no CR: whether a GRAVE waits is as given. States are made anew, field by field: one that is
+    // changed in place is copied whole at each byte.
     fn marked(self, grave: bool) -> Self
         ensures { λ r. ⌜ r ≡ (marks grave self) .state ⌝ }
     {
@@ -329,28 +372,24 @@ impl Joiner {
         }
     }
 
-    // The bytes of a part from `at` on that do no more than make the line longer, as many as there is room for.
-    fn pass(self, buffer: &mut [u8], part: &[u8], at: usize) -> Copied
+    // Passes bytes of a part from `at` on that change nothing but how many are held.
+    fn pass(self, buffer: &mut [u8], part: &[u8], at: usize) -> Passed
         requires { ⌜ length (now buffer) ≡ 1024 ⌝ }
+        requires { ⌜ reachable self ≡ true ⌝ }
         requires { ⌜ at ≤ length (now part) ⌝ }
         ensures { λ r. ⌜ at ≤ r .at ⌝ }
         ensures { λ r. ⌜ r .at ≤ length (now (part .entry)) ⌝ }
+        ensures { λ r. ⌜ reachable (st (r .held) (self .grave) (self .cr) (self .over)) ≡ true ⌝ }
         ensures { λ r. ⌜ run at self (now (buffer .entry)) (drop at (now (part .entry))) ≡ run (r .at) (st (r .held) (self .grave) (self .cr) (self .over)) (now (buffer .exit)) (drop (r .at) (now (part .entry))) ⌝ }
     {
         let held = self.held;
         if self.grave {
-            return Copied { held, at };
+            return Passed { held, at };
         }
         if self.cr {
-            return Copied { held, at };
+            return Passed { held, at };
         }
-        if self.over {
-            return Copied { held, at };
-        }
-        if 1023 < held {
-            return Copied { held, at };
-        }
-        copy(held, buffer, part, at)
+        pass_plain(self.over, held, buffer, part, at)
     }
 
     // Takes the bytes of a part, up to and including the one that ends a line, or all of them.

@@ -1,40 +1,46 @@
--- `joiner::Joiner::pass` meets its contract: with no flag set it is `copy`'s, and otherwise nothing is done.
+-- `joiner::Joiner::pass` meets its contract: where no GRAVE waits and no CR was just seen it is `pass_plain`'s, and otherwise nothing is done.
 -- Assumes nothing.
 use borrow.Author.Needs.{needs}
-use Rattle.joiner.proofs.Laws.{unflagged}
+use native.Mathlib.Nat.{le-refl}
+use mathlib.Core.Path.{refl}
+use Rattle.joiner.proofs.Laws.{unmarked}
+use Rattle.joiner.proofs.Reach.{to-fine, of-fine}
 use Rattle.joiner.proofs.Joiner.pass.Statement.{statement}
 use Rattle.joiner.proofs.Joiner.pass.Tie as tie
 use Rattle.joiner.proofs.Joiner.pass.Reads as reads
 use Rattle.joiner.proofs.Joiner.pass.Lts as lts
-use Rattle.joiner.proofs.copy.Reads as copy-reads
+use Rattle.joiner.proofs.pass_plain.Reads as pass-plain-reads
 
 returns : tie.Need-returns
-returns c = search needs
+returns c = let p = c .before .before .before .pre in (le-refl _, (p .1 .1, (p .1 .0, refl)))
 
 returns-2 : tie.Need-returns-2
-returns-2 c = search needs
+returns-2 c = let p = c .before .before .before .before .pre in (le-refl _, (p .1 .1, (p .1 .0, refl)))
 
-returns-3 : tie.Need-returns-3
-returns-3 c = search needs
-
-returns-4 : tie.Need-returns-4
-returns-4 c = search needs
-
-copy-requires : tie.Need-copy-requires
-copy-requires c κs = search needs
+pass-plain-requires : tie.Need-pass-plain-requires
+pass-plain-requires c κs =
+    let w = c .before .before .before .before .before in
+    let f = to-fine (w .args .self) (w .pre .1 .0) in
+    (w .pre .0, (f .within, (f .full, w .pre .1 .1)))
 
 same-length : tie.Need-same-length
 same-length c = search needs
 
-returns-5 : tie.Need-returns-5
-returns-5 c =
-    let k = c .before .before .copy in
-    let w = c .before .before .before .before .before in
-    let a = w .before .before .before .before .before .args in (
+returns-3 : tie.Need-returns-3
+returns-3 c =
+    let k = c .before .before .pass-plain in
+    let t = c .before .before .before .before in
+    let w = t .before .before .before .before in
+    let f = to-fine (w .args .self) (w .pre .1 .0) in (
       k .ensures .0,
-      (k .ensures .1 .0, unflagged (a .self) _ _ _ _ _ _ _ (w .before .before .if1 .left) (w .before .if2 .left) (w .if3 .left) (k .ensures .1 .1)),
+      (
+        k .ensures .1 .0,
+        (
+          of-fine _ (record { within = k .ensures .1 .1 .0; full = k .ensures .1 .1 .1 .0; apart = f .apart }),
+          unmarked (w .args .self) _ _ _ _ _ _ _ (t .before .if1 .left) (t .if2 .left) (k .ensures .1 .1 .1 .1),
+        ),
+      ),
     )
 
 pub pass-spec : {M : Type 1} → statement M
-pass-spec =
-    tie.close (tie.spec returns returns-2 returns-3 returns-4 copy-requires same-length returns-5)
+pass-spec = tie.close (tie.spec returns returns-2 pass-plain-requires same-length returns-3)
