@@ -35,12 +35,13 @@ use Rattle.reading.specs.declared.Shown.the-variants as shown
 use Rattle.reading.specs.declared.Decided.{Decided}
 use Rattle.reading.specs.declared.Decided.the-variants.{Takes, Refuses}
 use Rattle.reading.specs.declared.Cursor.{Cursor}
+use Rattle.reading.specs.declared.Given as declared
 use Rattle.reading.specs.declared.Given.the-variants as gives
 use Rattle.reading.specs.declared.Step.{Step}
 use Rattle.reading.specs.Command.{Item, verb, option, argument, target, prop, argumentBy}
 use Rattle.reading.specs.Reading.{state, begin, Decision, refuses, takes, orNo, notSeen, decideVerb, decideOption, decideArgument, decideTarget, decideProperty, decideAfter, decideIn, decide, next, Part, Reading, refusal, read, adding, ended, partOf, going, walkTerms, unless, readingOf}
 use Rattle.reading.specs.Records.{optionRecord, valueRecord, recordOf, recordsOf}
-use Rattle.reading.specs.Cursor.{shownOf, decidedOf, nextShown, cursor, step, stepOn, endOn, stepAt, stepOf, left, start}
+use Rattle.reading.specs.Cursor.{shownOf, decidedOf, nextShown, cursor, step, givenOn, givenEnd, givenAt, givenOf, cursorAfter, stepOf, left, start}
 use Rattle.reading.specs.Shown.{valueShown, recordShown, optionSize, recordSize, nameSize, counted}
 use Rattle.reading.proofs.TakenCases.{taken-case}
 
@@ -179,101 +180,117 @@ pub record Stepped (line : List ℕ) (c : Cursor) (x : Shown) (a n : ℕ) (after
   pub at : after .at ≡ a + n
   pub fits : a + n ≤ length line
   pub name : nameSize x ≤ 64
+  pub room : counted x ≡ 1 → c .state .count < 32
 
--- what a step gave, by the term that was found and the decision on it
-data How (line : List ℕ) (c : Cursor) (s : Step) : Type 0 where
+-- what was given, by the term that was found and the decision on it
+data How (line : List ℕ) (c : Cursor) (g : declared.Given) : Type 0 where
   part : (i : Item) (a n : ℕ) → found.Term a n ≡ termAt line (c .at) → decide (c .state) (signs Out (take n (drop a line))) ≡ takes i
-      → s ≡ step (gives.Part (shownOf i) a n) (cursor (a + n) (next (c .state) i)) → How line c s
-  no : (k a : ℕ) → left line c ≡ refusal k a → s ≡ step (gives.Refused k a) c → How line c s
-  over : left line c ≡ read [] → s ≡ step gives.End c → How line c s
+      → g ≡ gives.Part (shownOf i) a n → How line c g
+  no : (k a : ℕ) → left line c ≡ refusal k a → g ≡ gives.Refused k a → How line c g
+  over : left line c ≡ read [] → g ≡ gives.End → How line c g
 
-how : (line : List ℕ) (c : Cursor) (s : Step) → s ≡ stepOf line c → How line c s
-unfolding stepOf
-how line c s is = go (termAt line (c .at)) refl
+how : (line : List ℕ) (c : Cursor) (g : declared.Given) → g ≡ givenOf line (c .at) (c .state) → How line c g
+unfolding givenOf
+how line c g is = go (termAt line (c .at)) refl
   where
-    over-in : (p : Phase) → c .state .phase ≡ p → left line c ≡ ended p (length line) → s ≡ endOn (length line) c p → How line c s
-    over-in First e l h = over l h
-    over-in Options e l h = over l h
-    over-in (Waits k) e l h = no 9 (length line) l h
-    over-in Rest e l h = over l h
+    over-in : (p : Phase) → left line c ≡ ended p (length line) → g ≡ givenEnd (length line) p → How line c g
+    over-in First l h = over l h
+    over-in Options l h = over l h
+    over-in (Waits k) l h = no 9 (length line) l h
+    over-in Rest l h = over l h
 
     by : (a n : ℕ) (d : Decision) → found.Term a n ≡ termAt line (c .at) → decide (c .state) (signs Out (take n (drop a line))) ≡ d
-        → s ≡ stepOn a n c (decidedOf d) → How line c s
+        → g ≡ givenOn a n (decidedOf d) → How line c g
     by a n (refuses k) e q h = no k a (left-refused line c a n k e q) h
-    by a n (takes i) e q h =
-        part i a n e q (h ∙ ap (λ (t : State). step (gives.Part (shownOf i) a n) (cursor (a + n) t)) (next-shown (c .state) i))
+    by a n (takes i) e q h = part i a n e q h
 
-    go : (f : Found) → termAt line (c .at) ≡ f → How line c s
-    go found.None e = over-in (c .state .phase) refl (left-none line c (sym e)) (is ∙ ap (stepAt line c) e)
-    go (found.Term a n) e = by a n (decide (c .state) (signs Out (take n (drop a line)))) (sym e) refl (is ∙ ap (stepAt line c) e)
+    go : (f : Found) → termAt line (c .at) ≡ f → How line c g
+    go found.None e = over-in (c .state .phase) (left-none line c (sym e)) (is ∙ ap (givenAt line (c .state)) e)
+    go (found.Term a n) e = by a n (decide (c .state) (signs Out (take n (drop a line)))) (sym e) refl (is ∙ ap (givenAt line (c .state)) e)
 
-module _ (line : List ℕ) (c : Cursor) (s : Step) (is : s ≡ stepOf line c) where
-  pub step-part : (x : Shown) (a n : ℕ) → s .given ≡ gives.Part x a n → Stepped line c x a n (s .next)
-  step-part x a n g = go (how line c s is)
+module _ (line : List ℕ) (c : Cursor) (g : declared.Given) (is : g ≡ givenOf line (c .at) (c .state)) where
+  pub given-part : (x : Shown) (a n : ℕ) → g ≡ gives.Part x a n → Stepped line c x a n (cursor (a + n) (nextShown (c .state) x))
+  given-part x a n q = go (how line c g is)
     where
-      go : How line c s → Stepped line c x a n (s .next)
-      go (part i b m e d h) =
-          let q = sym (ap (λ (t : Step). t .given) h) ∙ g in
-          let x-is : shownOf i ≡ x = cc in
-          let a-is : b ≡ a = cc in
-          let n-is : m ≡ n = cc in
-          let w = term-within line (c .at) b m e in
-          let k = took (c .state) (signs Out (take m (drop b line))) i d in
-          let at-is : s .next .at ≡ b + m = ap (λ (t : Step). t .next .at) h in
+      took-so : (i : Item) → shownOf i ≡ x → found.Term a n ≡ termAt line (c .at) → decide (c .state) (signs Out (take n (drop a line))) ≡ takes i
+          → Stepped line c x a n (cursor (a + n) (nextShown (c .state) x))
+      took-so i e f d =
+          let w = term-within line (c .at) a n f in
+          let k = took (c .state) (signs Out (take n (drop a line))) i d in
           record {
             item = i;
-            taken = ap (λ (j : ℕ). decide (c .state) (signs Out (take j (drop a line)))) (sym n-is)
-                ∙ ap (λ (j : ℕ). decide (c .state) (signs Out (take m (drop j line)))) (sym a-is)
-                ∙ d;
-            shows = x-is;
-            leaves = left-takes line c b m i e d
-                ∙ ap (λ (t : Cursor). adding (record { start = b; len = m; item = i }) (left line t)) (sym (ap (λ (t : Step). t .next) h))
-                ∙ ap (λ (k : ℕ). adding (record { start = k; len = m; item = i }) (left line (s .next))) a-is
-                ∙ ap (λ (k : ℕ). adding (record { start = a; len = k; item = i }) (left line (s .next))) n-is;
-            from = omega (arith, w .from);
-            some = omega (arith, w .some);
-            at = omega arith;
-            fits = omega (arith, w .fits);
-            name = rw x-is at (k .name);
+            taken = d;
+            shows = e;
+            leaves = left-takes line c a n i f d ∙ ap (λ (t : State). adding (record { start = a; len = n; item = i }) (left line (cursor (a + n) t))) (sym (next-shown (c .state) i) ∙ ap (nextShown (c .state)) e);
+            from = w .from;
+            some = w .some;
+            at = refl;
+            fits = w .fits;
+            name = rw e at (k .name);
+            room = λ z. k .room (ap counted e ∙ z);
           }
-      go (no k b l h) = let q = sym (ap (λ (t : Step). t .given) h) ∙ g in let z : _≡_ {A = ℕ} 0 1 = cc in absurd (omega arith)
-      go (over l h) = let q = sym (ap (λ (t : Step). t .given) h) ∙ g in let z : _≡_ {A = ℕ} 0 1 = cc in absurd (omega arith)
 
-  pub step-refused : (k a : ℕ) → s .given ≡ gives.Refused k a → left line c ≡ refusal k a
-  step-refused k a g = go (how line c s is)
-    where
-      go : How line c s → left line c ≡ refusal k a
-      go (part i b m e d h) = let q = sym (ap (λ (t : Step). t .given) h) ∙ g in let z : _≡_ {A = ℕ} 0 1 = cc in absurd (omega arith)
-      go (no j b l h) = let q = sym (ap (λ (t : Step). t .given) h) ∙ g in let z : refusal j b ≡ refusal k a = cc in l ∙ z
-      go (over l h) = let q = sym (ap (λ (t : Step). t .given) h) ∙ g in let z : _≡_ {A = ℕ} 0 1 = cc in absurd (omega arith)
+      go : How line c g → Stepped line c x a n (cursor (a + n) (nextShown (c .state) x))
+      go (part i b m f d h) =
+          let z = sym h ∙ q in
+          let a-is : b ≡ a = cc in
+          let n-is : m ≡ n = cc in
+          let x-is : shownOf i ≡ x = cc in
+          took-so i x-is (rw (a-is, n-is) at f) (rw (a-is, n-is) at d)
+      go (no k b l h) = let z = sym h ∙ q in let y : _≡_ {A = ℕ} 0 1 = cc in absurd (omega arith)
+      go (over l h) = let z = sym h ∙ q in let y : _≡_ {A = ℕ} 0 1 = cc in absurd (omega arith)
 
-  pub step-end : s .given ≡ gives.End → left line c ≡ read []
-  step-end g = go (how line c s is)
+  pub given-refused : (k a : ℕ) → g ≡ gives.Refused k a → left line c ≡ refusal k a
+  given-refused k a q = go (how line c g is)
     where
-      go : How line c s → left line c ≡ read []
-      go (part i b m e d h) = let q = sym (ap (λ (t : Step). t .given) h) ∙ g in let z : _≡_ {A = ℕ} 0 1 = cc in absurd (omega arith)
-      go (no j b l h) = let q = sym (ap (λ (t : Step). t .given) h) ∙ g in let z : _≡_ {A = ℕ} 0 1 = cc in absurd (omega arith)
+      go : How line c g → left line c ≡ refusal k a
+      go (part i b m f d h) = let z = sym h ∙ q in let y : _≡_ {A = ℕ} 0 1 = cc in absurd (omega arith)
+      go (no j b l h) = let z = sym h ∙ q in let y : refusal j b ≡ refusal k a = cc in l ∙ y
+      go (over l h) = let z = sym h ∙ q in let y : _≡_ {A = ℕ} 0 1 = cc in absurd (omega arith)
+
+  pub given-end : g ≡ gives.End → left line c ≡ read []
+  given-end q = go (how line c g is)
+    where
+      go : How line c g → left line c ≡ read []
+      go (part i b m f d h) = let z = sym h ∙ q in let y : _≡_ {A = ℕ} 0 1 = cc in absurd (omega arith)
+      go (no j b l h) = let z = sym h ∙ q in let y : _≡_ {A = ℕ} 0 1 = cc in absurd (omega arith)
       go (over l h) = l
 
--- ---- a step, as the code makes it
+-- the same of a whole step
+module _ (line : List ℕ) (c : Cursor) (s : Step) (is : s ≡ stepOf line c) where
+  step-given : s .given ≡ givenOf line (c .at) (c .state)
+  unfolding stepOf
+  step-given = ap (λ (t : Step). t .given) is
+
+  step-next : s .next ≡ cursorAfter c (s .given)
+  unfolding stepOf
+  step-next = ap (λ (t : Step). t .next) is ∙ ap (cursorAfter c) (sym step-given)
+
+  pub step-part : (x : Shown) (a n : ℕ) → s .given ≡ gives.Part x a n → Stepped line c x a n (s .next)
+  step-part x a n q = let e = step-next ∙ ap (cursorAfter c) q in rw e (given-part line c (s .given) step-given x a n q)
+
+  pub step-refused : (k a : ℕ) → s .given ≡ gives.Refused k a → left line c ≡ refusal k a
+  step-refused = given-refused line c (s .given) step-given
+
+  pub step-end : s .given ≡ gives.End → left line c ≡ read []
+  step-end = given-end line c (s .given) step-given
+
+-- ---- what is given, as the code finds it
 
 -- without a term
-pub step-none : (line : List ℕ) (c : Cursor) (p : Phase) → p ≡ c .state .phase → found.None ≡ termAt line (c .at) → endOn (length line) c p ≡ stepOf line c
+pub none-given : (line : List ℕ) (a : ℕ) (s : State) → found.None ≡ termAt line a → givenEnd (length line) (s .phase) ≡ givenOf line a s
+unfolding givenOf
+none-given line a s e = ap (givenAt line s) e
+
+-- with one, by the decision on it; the term begins the part of the line that begins at b
+pub term-given : (line : List ℕ) (a : ℕ) (s : State) (b n : ℕ) (d : Decided) → found.Term b n ≡ termAt line a
+    → d ≡ decidedOf (decideIn (s .phase) (s .help) (s .seen) (s .count) (signs Out (take n (take (length line - b) (drop b line)))))
+    → givenOn b n d ≡ givenOf line a s
+unfolding givenOf decide
+term-given line a s b n d e h =
+    ap (givenOn b n) (h ∙ ap (λ (t : List ℕ). decidedOf (decide s (signs Out (take n t)))) (part-from line b)) ∙ ap (givenAt line s) e
+
+-- a step by what is given
+pub step-of : (line : List ℕ) (c : Cursor) (g : declared.Given) → g ≡ givenOf line (c .at) (c .state) → step g (cursorAfter c g) ≡ stepOf line c
 unfolding stepOf
-step-none line c p h e = ap (endOn (length line) c) h ∙ ap (stepAt line c) e
-
--- with one, by the decision on it; the term begins the part of the line that begins at a
-pub step-is : (line : List ℕ) (c : Cursor) (a n : ℕ) (d : Decided) → found.Term a n ≡ termAt line (c .at)
-    → d ≡ decidedOf (decideIn (c .state .phase) (c .state .help) (c .state .seen) (c .state .count) (signs Out (take n (take (length line - a) (drop a line)))))
-    → stepOn a n c d ≡ stepOf line c
-unfolding stepOf decide
-step-is line c a n d e h =
-    ap (stepOn a n c) (h ∙ ap (λ (s : List ℕ). decidedOf (decide (c .state) (signs Out (take n s)))) (part-from line a)) ∙ ap (stepAt line c) e
-
--- a part that was taken, by what is shown of it
-pub shown-room : (s : State) (t : List Sign) (x : Shown) → Takes x ≡ decidedOf (decide s t) → counted x ≡ 1 → s .count < 32
-shown-room s t x h = go (decide s t) refl h
-  where
-    go : (d : Decision) → decide s t ≡ d → Takes x ≡ decidedOf d → counted x ≡ 1 → s .count < 32
-    go (refuses k) e q = let z : _≡_ {A = ℕ} 0 1 = cc in absurd (omega arith)
-    go (takes i) e q = let z : shownOf i ≡ x = cc in λ w. took s t i e .room (ap counted z ∙ w)
+step-of line c g is = ap (λ (h : declared.Given). step h (cursorAfter c h)) is

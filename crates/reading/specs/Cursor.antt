@@ -52,24 +52,35 @@ cursor a s = record { at = a; state = s }
 abbrev pub step : Given → Cursor → Step
 step g c = record { given = g; next = c }
 
--- a step: a part with its start and length and the cursor after it; or a refusal, or the line's end, with the cursor as it was
-abbrev pub stepOn : ℕ → ℕ → Cursor → Decided → Step
-stepOn a n c (Takes i) = step (gives.Part i a n) (cursor (a + n) (nextShown (c .state) i))
-stepOn a n c (Refuses k) = step (gives.Refused k a) c
+-- what a term of n bytes that begins at a gives, by the decision on it: a part with its start and length, or a refusal
+abbrev pub givenOn : ℕ → ℕ → Decided → Given
+givenOn a n (Takes i) = gives.Part i a n
+givenOn a n (Refuses k) = gives.Refused k a
 
 -- a line that ends while an option waits is refused as 9, at its length
-abbrev pub endOn : ℕ → Cursor → Phase → Step
-endOn n c First = step gives.End c
-endOn n c Options = step gives.End c
-endOn n c (Waits k) = step (gives.Refused 9 n) c
-endOn n c Rest = step gives.End c
+abbrev pub givenEnd : ℕ → Phase → Given
+givenEnd n First = gives.End
+givenEnd n Options = gives.End
+givenEnd n (Waits k) = gives.Refused 9 n
+givenEnd n Rest = gives.End
 
-abbrev pub stepAt : List ℕ → Cursor → Found → Step
-stepAt line c found.None = endOn (length line) c (c .state .phase)
-stepAt line c (found.Term a n) = stepOn a n c (decidedOf (decide (c .state) (signs Out (take n (drop a line)))))
+abbrev pub givenAt : List ℕ → State → Found → Given
+givenAt line s found.None = givenEnd (length line) (s .phase)
+givenAt line s (found.Term a n) = givenOn a n (decidedOf (decide s (signs Out (take n (drop a line)))))
 
+-- what the next term from a place on gives, in a state
+unfoldable pub givenOf : List ℕ → ℕ → State → Given
+givenOf line a s = givenAt line s (termAt line a)
+
+-- the cursor after a part; after a refusal, and at the line's end, it is as it was
+abbrev pub cursorAfter : Cursor → Given → Cursor
+cursorAfter c (gives.Part i a n) = cursor (a + n) (nextShown (c .state) i)
+cursorAfter c (gives.Refused k a) = c
+cursorAfter c gives.End = c
+
+-- a step
 unfoldable pub stepOf : List ℕ → Cursor → Step
-stepOf line c = stepAt line c (termAt line (c .at))
+stepOf line c = let g = givenOf line (c .at) (c .state) in step g (cursorAfter c g)
 
 -- what is left of a line's reading from a cursor on
 unfoldable pub left : List ℕ → Cursor → Reading

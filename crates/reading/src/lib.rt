@@ -20,7 +20,7 @@ ghost use Rattle.terms.specs.Terms.{termsOf};
 ghost use Rattle.words.specs.Words.{kindOf};
 ghost use Rattle.reading.specs.Reading.{decideVerb, decideOption, decideArgument, decideTarget, decideProperty, decideAfter, decideIn, phaseAfter, readingOf};
 ghost use Rattle.reading.specs.Records.{optionRecord, answerIn, roomIn, refusalRecord, cutRecord, targetIn, targetPart};
-ghost use Rattle.reading.specs.Cursor.{decidedOf, nextShown, endOn, stepOf, left, start};
+ghost use Rattle.reading.specs.Cursor.{decidedOf, nextShown, givenEnd, givenOf, stepOf, left, start};
 ghost use Rattle.reading.specs.Shown.{verdictIn, neededIn, byShape, argumentIf, recordShown, optionSize, recordSize, nameSize, counted, recordsIn, totalFrom, bytesIn, isTarget};
 
 // What may come next.
@@ -310,29 +310,38 @@ fn after(s: State, i: Shown) -> State
     }
 }
 
-// The line's end: an option that still waits for its argument is refused, at the line's length.
-fn end_step(c: Cursor, phase: Phase, n: usize) -> Step
-    ensures { λ r. ⌜ r ≡ endOn n c phase ⌝ }
+// What the end of a line of n bytes gives: an option that still waits for its argument is refused there.
+fn given_end(phase: Phase, n: usize) -> Given
+    ensures { λ r. ⌜ r ≡ givenEnd n phase ⌝ }
 {
     match phase {
-        Phase::First => Step {
-            given: Given::End,
-            next: c,
+        Phase::First => Given::End,
+        Phase::Options => Given::End,
+        Phase::Waits(_) => Given::Refused {
+            number: 9,
+            place: n,
         },
-        Phase::Options => Step {
-            given: Given::End,
-            next: c,
-        },
-        Phase::Waits(_) => Step {
-            given: Given::Refused {
-                number: 9,
-                place: n,
-            },
-            next: c,
-        },
-        Phase::Rest => Step {
-            given: Given::End,
-            next: c,
+        Phase::Rest => Given::End,
+    }
+}
+
+// What the next term from a place on gives, in a state.
+fn given_next(line: &[u8], at: usize, state: State) -> Given
+    ensures { λ r. ⌜ r ≡ givenOf (now (line .entry)) at state ⌝ }
+{
+    let phase = state.phase;
+    let Found::Term { start, len } = terms::term_at(line, at) else {
+        return given_end(phase, line.len());
+    };
+    let help = state.help;
+    let seen = state.seen;
+    let count = state.count;
+    let d = decide_in(&line[start..], len, phase, help, seen, count);
+    match d {
+        Decided::Takes(item) => Given::Part { item, start, len },
+        Decided::Refuses(number) => Given::Refused {
+            number,
+            place: start,
         },
     }
 }
@@ -357,30 +366,24 @@ impl Cursor {
     {
         let at = self.at;
         let state = self.state;
-        let phase = state.phase;
-        let Found::Term { start, len } = terms::term_at(line, at) else {
-            return end_step(self, phase, line.len());
-        };
-        let help = state.help;
-        let seen = state.seen;
-        let count = state.count;
-        let d = decide_in(&line[start..], len, phase, help, seen, count);
-        match d {
-            Decided::Takes(item) => {
+        let g = given_next(line, at, state);
+        match g {
+            Given::Part { item, start, len } => {
                 let n = Cursor {
                     at: start + len,
                     state: after(state, item),
                 };
-                Step {
-                    given: Given::Part { item, start, len },
-                    next: n,
-                }
+                Step { given: g, next: n }
             }
-            Decided::Refuses(number) => Step {
-                given: Given::Refused {
-                    number,
-                    place: start,
-                },
+            Given::Refused {
+                number: _,
+                place: _,
+            } => Step {
+                given: g,
+                next: self,
+            },
+            Given::End => Step {
+                given: g,
                 next: self,
             },
         }
@@ -411,18 +414,21 @@ fn put_option(out: &mut [u8], at: usize, number: u8, a: usize, n: usize)
     text::copy(out, at, &t);
 }
 
-// An option that takes no argument, which would stand at e; another one's record is written at its argument.
-fn put_mere(out: &mut [u8], at: usize, number: u8, e: usize)
+// An option that takes no argument, which would stand at e; another one's record is written at its argument. Tells how many bytes were written.
+fn put_mere(out: &mut [u8], at: usize, number: u8, e: usize) -> usize
     requires { ⌜ e < 65536 ⌝ }
-    ensures { λ r. ⌜ now (out .exit) ≡ sets (now (out .entry)) at (optionRecord number (kindOf number) e) ⌝ }
+    ensures { λ r. ⌜ (r ≡ optionSize (kindOf number)) × (now (out .exit) ≡ sets (now (out .entry)) at (optionRecord number (kindOf number) e)) ⌝ }
 {
     let k = words::kind_of(number);
     match k {
-        Kind::Mere => put_option(out, at, number, e, 0),
-        Kind::Keep => {}
-        Kind::Level => {}
-        Kind::Place => {}
-        Kind::Entries => {}
+        Kind::Mere => {
+            put_option(out, at, number, e, 0);
+            6
+        }
+        Kind::Keep => 0,
+        Kind::Level => 0,
+        Kind::Place => 0,
+        Kind::Entries => 0,
     }
 }
 
@@ -482,49 +488,30 @@ fn put_property(out: &mut [u8], at: usize, m: usize, operator: u8, a: usize, n: 
     put_parts(out, at, a, m, 2, e + 2, less(k, 2));
 }
 
-// The record of a part of n bytes from a on.
-fn put_record(out: &mut [u8], at: usize, item: Shown, a: usize, n: usize)
+// The record of a part of n bytes from a on; tells how many bytes it has.
+fn put_record(out: &mut [u8], at: usize, item: Shown, a: usize, n: usize) -> usize
     requires { ⌜ (a ≤ 1024) × (n ≤ 1024) × (nameSize item ≤ 64) ⌝ }
-    ensures { λ r. ⌜ now (out .exit) ≡ sets (now (out .entry)) at (recordShown item a n) ⌝ }
+    ensures { λ r. ⌜ (r ≡ recordSize item) × (now (out .exit) ≡ sets (now (out .entry)) at (recordShown item a n)) ⌝ }
 {
     match item {
         Shown::Verb(number) => {
             let t = [1, number];
             text::copy(out, at, &t);
+            2
         }
         Shown::Option(number) => put_mere(out, at, number, a + n),
-        Shown::Argument(number) => put_option(out, at, number, a, n),
-        Shown::Target => put_target(out, at, a, n),
-        Shown::Property { name, operator } => put_property(out, at, name, operator, a, n),
-    }
-}
-
-fn option_size(number: u8) -> usize
-    ensures { λ r. ⌜ r ≡ optionSize (kindOf number) ⌝ }
-{
-    let k = words::kind_of(number);
-    match k {
-        Kind::Mere => 6,
-        Kind::Keep => 0,
-        Kind::Level => 0,
-        Kind::Place => 0,
-        Kind::Entries => 0,
-    }
-}
-
-// How many bytes a part's record has.
-fn record_size(item: Shown) -> usize
-    ensures { λ r. ⌜ r ≡ recordSize item ⌝ }
-{
-    match item {
-        Shown::Verb(_) => 2,
-        Shown::Option(number) => option_size(number),
-        Shown::Argument(_) => 6,
-        Shown::Target => 5,
-        Shown::Property {
-            name: _,
-            operator: _,
-        } => 10,
+        Shown::Argument(number) => {
+            put_option(out, at, number, a, n);
+            6
+        }
+        Shown::Target => {
+            put_target(out, at, a, n);
+            5
+        }
+        Shown::Property { name, operator } => {
+            put_property(out, at, name, operator, a, n);
+            10
+        }
     }
 }
 
@@ -545,18 +532,19 @@ fn put_records(line: &[u8], out: &mut [u8]) -> Answer
     requires { ⌜ length (now line) ≤ 1024 ⌝ }
     ensures { λ r. ⌜ (r ≡ totalFrom 0 (left (now (line .entry)) start)) × (verdictIn (left (now (line .entry)) start) ≡ Verdict.Fine → now (out .exit) ≡ sets (now (out .entry)) 0 (recordsIn (left (now (line .entry)) start))) ⌝ }
 {
-    let mut c = Cursor::begin();
+    let c = Cursor::begin();
+    let mut at = c.at;
+    let mut state = c.state;
     let mut w: usize = 0;
     loop {
-        let s = c.next(line);
-        let g = s.given;
+        let g = given_next(line, at, state);
         match g {
             Given::End => return Answer::Wrote(w),
             Given::Refused { number, place } => return Answer::Refused { number, place },
             Given::Part { item, start, len } => {
-                put_record(out, w, item, start, len);
-                w += record_size(item);
-                c = s.next;
+                w += put_record(out, w, item, start, len);
+                state = after(state, item);
+                at = start + len;
             }
         }
     }

@@ -33,19 +33,19 @@ same-length : tie.Need-same-length
 same-length c = search needs
 
 returns : tie.Need-returns
-returns c = rw (sym (c .before .before .before .before .before .before .kind-of .ensures) ∙ c .before .before .before .before .enum-told .given .1) (c .before .before .put-option .ensures)
+returns c = rw (sym (c .before .before .before .before .before .before .kind-of .ensures) ∙ c .before .before .before .before .enum-told .given .1) (refl, c .before .before .put-option .ensures)
 
 returns-2 : tie.Need-returns-2
-returns-2 c = rw (sym (c .before .before .kind-of .ensures) ∙ c .enum-told2 .given .1)
+returns-2 c = rw (sym (c .before .before .kind-of .ensures) ∙ c .enum-told2 .given .1) (refl, refl)
 
 returns-3 : tie.Need-returns-3
-returns-3 c = rw (sym (c .before .before .kind-of .ensures) ∙ c .enum-told3 .given .1)
+returns-3 c = rw (sym (c .before .before .kind-of .ensures) ∙ c .enum-told3 .given .1) (refl, refl)
 
 returns-4 : tie.Need-returns-4
-returns-4 c = rw (sym (c .before .before .kind-of .ensures) ∙ c .enum-told4 .given .1)
+returns-4 c = rw (sym (c .before .before .kind-of .ensures) ∙ c .enum-told4 .given .1) (refl, refl)
 
 returns-5 : tie.Need-returns-5
-returns-5 c = rw (sym (c .before .before .kind-of .ensures) ∙ c .enum-told5 .given .1)
+returns-5 c = rw (sym (c .before .before .kind-of .ensures) ∙ c .enum-told5 .given .1) (refl, refl)
 
 pub put-mere-spec : {M : Type 1} → statement M
 put-mere-spec =

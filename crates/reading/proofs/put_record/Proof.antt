@@ -1,4 +1,5 @@
 -- `reading::put_record` meets its contract. Assumes nothing.
+use mathlib.Core.Path.{refl}
 use borrow.Author.Needs.{needs}
 use Rattle.reading.proofs.put_record.Statement.{statement}
 use Rattle.reading.proofs.put_record.Tie as tie
@@ -50,7 +51,7 @@ same-length : tie.Need-same-length
 same-length c = search needs
 
 returns : tie.Need-returns
-returns c = rw (c .before .before .before .before .before .before .item .given .1) (c .before .before .copy .ensures)
+returns c = rw (c .before .before .before .before .before .before .item .given .1) (refl, c .before .before .copy .ensures)
 
 same-length-2 : tie.Need-same-length-2
 same-length-2 c = search needs
@@ -62,19 +63,19 @@ same-length-3 : tie.Need-same-length-3
 same-length-3 c = search needs
 
 returns-3 : tie.Need-returns-3
-returns-3 c = rw (c .before .before .before .before .before .item3 .given .1) (c .before .before .put-option .ensures)
+returns-3 c = rw (c .before .before .before .before .before .item3 .given .1) (refl, c .before .before .put-option .ensures)
 
 same-length-4 : tie.Need-same-length-4
 same-length-4 c = search needs
 
 returns-4 : tie.Need-returns-4
-returns-4 c = rw (c .before .before .before .before .enum-told .given .1) (c .before .before .put-target .ensures)
+returns-4 c = rw (c .before .before .before .before .enum-told .given .1) (refl, c .before .before .put-target .ensures)
 
 same-length-5 : tie.Need-same-length-5
 same-length-5 c = search needs
 
 returns-5 : tie.Need-returns-5
-returns-5 c = rw (c .before .before .before .before .before .item4 .given .1) (c .before .before .put-property .ensures)
+returns-5 c = rw (c .before .before .before .before .before .item4 .given .1) (refl, c .before .before .put-property .ensures)
 
 pub put-record-spec : {M : Type 1} → statement M
 put-record-spec =

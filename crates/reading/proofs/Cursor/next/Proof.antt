@@ -1,102 +1,69 @@
 -- `reading::Cursor::next` meets its contract. Assumes nothing.
-use Rattle.reading.specs.Reading.{decide}
+use Prim.Native.Nat.{_+_}
 use mathlib.Core.Path.{_≡_, refl, sym, ap, _∙_}
 use native.Mathlib.Omega.{arith}
-use Rattle.text.proofs.Slices.{length-from}
-use Rattle.terms.specs.declared.Found.the-variants.{Term}
-use Rattle.terms.specs.Scan.{termAt}
-use Rattle.terms.proofs.TermLaws.{Within, term-within}
-use Rattle.reading.specs.Cursor.{stepOn}
-use Rattle.reading.proofs.Steps.{step-none, step-is, shown-room}
+use Rattle.reading.specs.Cursor.{cursorAfter, step}
+use Rattle.reading.specs.declared.Given.{Given}
+use Rattle.reading.proofs.Steps.{given-part, step-of}
 use borrow.Author.Needs.{needs}
 use Rattle.reading.proofs.Cursor.next.Statement.{statement}
 use Rattle.reading.proofs.Cursor.next.Tie as tie
 use Rattle.reading.proofs.Cursor.next.Reads as reads
 use Rattle.reading.proofs.Cursor.next.Lts as lts
 use Rattle.reading.proofs.after.Reads as after-reads
-use Rattle.reading.proofs.decide_in.Reads as decide-in-reads
-use Rattle.reading.proofs.end_step.Reads as end-step-reads
-use Rattle.terms.proofs.term_at.Reads as term-at-reads
+use Rattle.reading.proofs.given_next.Reads as given-next-reads
 
-got : (c : tie.After-start)
-    → Term (c .start .given .0 .0) (c .start .given .0 .1 .0) ≡ termAt (c .before .before .before .before .before .args .line .now) (c .before .before .before .before .before .args .self .at)
-got c = sym (c .start .given .1) ∙ c .before .before .term-at .ensures
+given-next-requires : tie.Need-given-next-requires
+given-next-requires c κs = search needs
 
-within : (c : tie.After-start)
-    → Within (c .before .before .before .before .before .args .line .now) (c .before .before .before .before .before .args .self .at) (c .start .given .0 .0) (c .start .given .0 .1 .0)
-within c = term-within _ _ _ _ (got c)
+enum-known-g : tie.Need-enum-known-g
+enum-known-g c = search needs
 
-term-at-requires : tie.Need-term-at-requires
-term-at-requires c κs = search needs
+add-t11 : tie.Need-add-t11
+add-t11 c =
+    let a = c .before .before .before .before .before .before .args in
+    let w = given-part (a .line .now) (a .self) _ (c .before .before .before .given-next .ensures) _ _ _ (c .before .g .given .1) in
+    omega (arith, w .fits)
 
-enum-known-start : tie.Need-enum-known-start
-enum-known-start c = search needs
+after-requires : tie.Need-after-requires
+after-requires c κs =
+    let a = c .before .before .before .before .before .before .args in
+    given-part (a .line .now) (a .self) _ (c .before .before .before .given-next .ensures) _ _ _ (c .before .g .given .1) .room
 
 enum-told : tie.Need-enum-told
 enum-told c = search needs
 
-end-step-requires : tie.Need-end-step-requires
-end-step-requires c κs = search needs
+enum-told-2 : tie.Need-enum-told-2
+enum-told-2 c = search needs
 
 returns : tie.Need-returns
 returns c =
-    let t = c .before .before .before in
-    let a = t .before .before .before .args in
-    c .end-step .ensures ∙ step-none (a .line .now) (a .self) _ refl (sym (c .before .enum-told .given .1) ∙ t .term-at .ensures)
-
-sub-decide-in : tie.Need-sub-decide-in
-sub-decide-in c = let w = within (c .before .before) in omega arith
-
-part-decide-in-start : tie.Need-part-decide-in-start
-part-decide-in-start c = let w = within (c .before .before) in omega arith
-
-part-decide-in-end : tie.Need-part-decide-in-end
-part-decide-in-end c = search needs
-
-decide-in-requires : tie.Need-decide-in-requires
-decide-in-requires c κs = let w = within (c .before .before .before) in let a = c .before .before .before .before .before .before .before .before .args in rw (length-from (a .line .now) _) (omega arith)
-
-enum-known-d : tie.Need-enum-known-d
-enum-known-d c = search needs
-
-add-t22 : tie.Need-add-t22
-add-t22 c = let w = within (c .before .before .before .before .before .before .before) in omega arith
-
-after-requires : tie.Need-after-requires
-unfolding decide
-after-requires c κs =
-    let a = c .before .before .before .before .before .before .before .before .before .before .before .before .args in
-    shown-room (a .self .state) _ _ (sym (c .before .d .given .1) ∙ c .before .before .before .decide-in .ensures)
-
-enum-known-d-2 : tie.Need-enum-known-d-2
-enum-known-d-2 c = search needs
+    let a = c .before .before .before .before .before .before .before .args in
+    let g = c .before .before .before .before .given-next in
+    rw (c .after .ensures) (sym (ap (λ (h : Given). step h (cursorAfter (a .self) h)) (c .before .before .g .given .1)) ∙ step-of (a .line .now) (a .self) _ (g .ensures))
 
 returns-2 : tie.Need-returns-2
 returns-2 c =
-    let a = c .before .before .before .before .before .before .before .before .before .before .before .before .before .args in
-    rw (c .after .ensures) (sym (ap (stepOn _ _ (a .self)) (c .before .before .d .given .1)) ∙ step-is (a .line .now) (a .self) _ _ _ (got (c .before .before .before .before .before .before .before .before)) (c .before .before .before .before .decide-in .ensures))
+    let a = c .before .before .before .before .before .args in
+    let g = c .before .before .given-next in
+    sym (ap (λ (h : Given). step (g .result) (cursorAfter (a .self) h)) (c .enum-told .given .1)) ∙ step-of (a .line .now) (a .self) _ (g .ensures)
 
 returns-3 : tie.Need-returns-3
 returns-3 c =
-    let a = c .before .before .before .before .before .before .before .before .before .before .before .before .args in
-    sym (ap (stepOn _ _ (a .self)) (c .before .d2 .given .1)) ∙ step-is (a .line .now) (a .self) _ _ _ (got (c .before .before .before .before .before .before .before)) (c .before .before .before .decide-in .ensures)
+    let a = c .before .before .before .before .before .args in
+    let g = c .before .before .given-next in
+    sym (ap (λ (h : Given). step (g .result) (cursorAfter (a .self) h)) (c .enum-told2 .given .1)) ∙ step-of (a .line .now) (a .self) _ (g .ensures)
 
 pub next-spec : {M : Type 1} → statement M
 next-spec =
     tie.close
     (tie.spec
-    term-at-requires
-    enum-known-start
-    enum-told
-    end-step-requires
-    returns
-    sub-decide-in
-    part-decide-in-start
-    part-decide-in-end
-    decide-in-requires
-    enum-known-d
-    add-t22
+    given-next-requires
+    enum-known-g
+    add-t11
     after-requires
-    enum-known-d-2
+    enum-told
+    enum-told-2
+    returns
     returns-2
     returns-3)

@@ -1,9 +1,9 @@
--- `reading::end_step` meets its contract. Assumes nothing.
+-- `reading::given_end` meets its contract. Assumes nothing.
 use borrow.Author.Needs.{needs}
-use Rattle.reading.proofs.end_step.Statement.{statement}
-use Rattle.reading.proofs.end_step.Tie as tie
-use Rattle.reading.proofs.end_step.Reads as reads
-use Rattle.reading.proofs.end_step.Lts as lts
+use Rattle.reading.proofs.given_end.Statement.{statement}
+use Rattle.reading.proofs.given_end.Tie as tie
+use Rattle.reading.proofs.given_end.Reads as reads
+use Rattle.reading.proofs.given_end.Lts as lts
 
 enum-told : tie.Need-enum-told
 enum-told c = search needs
@@ -29,7 +29,7 @@ returns-3 c = rw (c .enum-told3 .given .1)
 returns-4 : tie.Need-returns-4
 returns-4 c = rw (c .enum-told4 .given .1)
 
-pub end-step-spec : {M : Type 1} → statement M
-end-step-spec =
+pub given-end-spec : {M : Type 1} → statement M
+given-end-spec =
     tie.close
     (tie.spec enum-told enum-told-2 enum-told-3 enum-told-4 returns returns-2 returns-3 returns-4)

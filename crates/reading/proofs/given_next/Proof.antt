@@ -1,0 +1,89 @@
+-- `reading::given_next` meets its contract. Assumes nothing.
+use mathlib.Core.Path.{_≡_, refl, sym, ap, _∙_}
+use native.Mathlib.Omega.{arith}
+use Rattle.text.proofs.Slices.{length-from}
+use Rattle.terms.specs.declared.Found.the-variants.{Term}
+use Rattle.terms.specs.Scan.{termAt}
+use Rattle.terms.proofs.TermLaws.{Within, term-within}
+use Rattle.reading.specs.Cursor.{givenOn}
+use Rattle.reading.proofs.Steps.{none-given, term-given}
+use borrow.Author.Needs.{needs}
+use Rattle.reading.proofs.given_next.Statement.{statement}
+use Rattle.reading.proofs.given_next.Tie as tie
+use Rattle.reading.proofs.given_next.Reads as reads
+use Rattle.reading.proofs.given_next.Lts as lts
+use Rattle.reading.proofs.decide_in.Reads as decide-in-reads
+use Rattle.reading.proofs.given_end.Reads as given-end-reads
+use Rattle.terms.proofs.term_at.Reads as term-at-reads
+
+got : (c : tie.After-start)
+    → Term (c .start .given .0 .0) (c .start .given .0 .1 .0) ≡ termAt (c .before .before .before .before .args .line .now) (c .before .before .before .before .args .at)
+got c = sym (c .start .given .1) ∙ c .before .before .term-at .ensures
+
+within : (c : tie.After-start)
+    → Within (c .before .before .before .before .args .line .now) (c .before .before .before .before .args .at) (c .start .given .0 .0) (c .start .given .0 .1 .0)
+within c = term-within _ _ _ _ (got c)
+
+term-at-requires : tie.Need-term-at-requires
+term-at-requires c κs = search needs
+
+enum-known-start : tie.Need-enum-known-start
+enum-known-start c = search needs
+
+enum-told : tie.Need-enum-told
+enum-told c = search needs
+
+given-end-requires : tie.Need-given-end-requires
+given-end-requires c κs = search needs
+
+returns : tie.Need-returns
+returns c =
+    let t = c .before .before .before in
+    let a = t .before .before .args in
+    c .given-end .ensures ∙ none-given (a .line .now) (a .at) (a .state) (sym (c .before .enum-told .given .1) ∙ t .term-at .ensures)
+
+sub-decide-in : tie.Need-sub-decide-in
+sub-decide-in c = let w = within (c .before .before) in omega arith
+
+part-decide-in-start : tie.Need-part-decide-in-start
+part-decide-in-start c = let w = within (c .before .before) in omega arith
+
+part-decide-in-end : tie.Need-part-decide-in-end
+part-decide-in-end c = search needs
+
+decide-in-requires : tie.Need-decide-in-requires
+decide-in-requires c κs = let w = within (c .before .before .before) in let a = c .before .before .before .before .before .before .before .args in rw (length-from (a .line .now) _) (omega arith)
+
+enum-known-d : tie.Need-enum-known-d
+enum-known-d c = search needs
+
+enum-known-d-2 : tie.Need-enum-known-d-2
+enum-known-d-2 c = search needs
+
+returns-2 : tie.Need-returns-2
+returns-2 c =
+    let a = c .before .before .before .before .before .before .before .before .before .before .before .args in
+    sym (ap (givenOn _ _) (c .before .d .given .1)) ∙ term-given (a .line .now) (a .at) (a .state) _ _ _ (got (c .before .before .before .before .before .before .before)) (c .before .before .before .decide-in .ensures)
+
+returns-3 : tie.Need-returns-3
+returns-3 c =
+    let a = c .before .before .before .before .before .before .before .before .before .before .before .args in
+    sym (ap (givenOn _ _) (c .before .d2 .given .1)) ∙ term-given (a .line .now) (a .at) (a .state) _ _ _ (got (c .before .before .before .before .before .before .before)) (c .before .before .before .decide-in .ensures)
+
+pub given-next-spec : {M : Type 1} → statement M
+given-next-spec =
+    tie.close
+    (tie.spec
+    term-at-requires
+    enum-known-start
+    enum-told
+    given-end-requires
+    returns
+    sub-decide-in
+    part-decide-in-start
+    part-decide-in-end
+    decide-in-requires
+    enum-known-d
+    enum-known-d-2
+    returns-2
+    returns-3)
