@@ -62,7 +62,7 @@ run-fits l at n h e =
     omega (arith, length-from l at)
 
 -- the mode at the end, and the quote that was opened last
-pub run-mode : (stop : ℕ) (s : List ℕ) → endMode Out (drop (runLen (ordinary stop) s) s) ≡ endMode Out s
+run-mode : (stop : ℕ) (s : List ℕ) → endMode Out (drop (runLen (ordinary stop) s) s) ≡ endMode Out s
 unfolding runLen endMode walk
 run-mode stop [] = refl
 run-mode stop (b ∷ s) = go (ordinary stop b) refl (run-mode stop s)
@@ -72,7 +72,7 @@ run-mode stop (b ∷ s) = go (ordinary stop b) refl (run-mode stop s)
     go true e ih = simp (e, stays stop b e) ih
     go false e ih = simp e
 
-pub run-opened : (stop i q : ℕ) (s : List ℕ) → openedAt Out (i + runLen (ordinary stop) s) q (drop (runLen (ordinary stop) s) s) ≡ openedAt Out i q s
+run-opened : (stop i q : ℕ) (s : List ℕ) → openedAt Out (i + runLen (ordinary stop) s) q (drop (runLen (ordinary stop) s) s) ≡ openedAt Out i q s
 unfolding runLen openedAt
 run-opened stop i q [] = refl
 run-opened stop i q (b ∷ s) = go (ordinary stop b) refl (run-opened stop (i + 1) q s)
@@ -84,10 +84,21 @@ run-opened stop i q (b ∷ s) = go (ordinary stop b) refl (run-opened stop (i + 
         simp (e, not-quote stop b e, stays stop b e) (ap (λ (k : ℕ). openedAt Out k q (drop (runLen (ordinary stop) s) s)) w ∙ ih)
     go false e ih = simp e (ap (λ (k : ℕ). openedAt Out k q (b ∷ s)) (let z : i + 0 ≡ i = omega arith in z))
 
-pub run-opened-first : (stop : ℕ) (s : List ℕ) → openedAt Out (runLen (ordinary stop) s) 0 (drop (runLen (ordinary stop) s) s) ≡ openedAt Out 0 0 s
-run-opened-first stop s =
-    let z : runLen (ordinary stop) s ≡ 0 + runLen (ordinary stop) s = omega arith in
-    ap (λ (k : ℕ). openedAt Out k 0 (drop (runLen (ordinary stop) s) s)) z ∙ run-opened stop 0 0 s
+-- the same where the first n bytes are of the run that a line begins with
+module _ (stop : ℕ) (l : List ℕ) (n : ℕ) (e : n + runLen (ordinary stop) (drop n l) ≡ runLen (ordinary stop) l) where
+  rest : drop (runLen (ordinary stop) (drop n l)) (drop n l) ≡ drop (runLen (ordinary stop) l) l
+  rest = drop-drop (runLen (ordinary stop) (drop n l)) n l ∙ ap (λ (k : ℕ). drop k l) e
+
+  pub run-mode-from : endMode Out (drop n l) ≡ endMode Out l
+  run-mode-from = sym (run-mode stop (drop n l)) ∙ ap (endMode Out) rest ∙ run-mode stop l
+
+  pub run-opened-from : openedAt Out n 0 (drop n l) ≡ openedAt Out 0 0 l
+  run-opened-from =
+      let z : runLen (ordinary stop) l ≡ 0 + runLen (ordinary stop) l = omega arith in
+      sym (run-opened stop n 0 (drop n l))
+      ∙ ap (λ (r : List ℕ). openedAt Out (n + runLen (ordinary stop) (drop n l)) 0 r) rest
+      ∙ ap (λ (k : ℕ). openedAt Out k 0 (drop (runLen (ordinary stop) l) l)) (e ∙ z)
+      ∙ run-opened stop 0 0 l
 
 -- whether there is this bare byte
 pub run-some : (n : ℕ) (s : List ℕ) → anyOf (isBare n) (signs Out (drop (runLen (ordinary n) s) s)) ≡ anyOf (isBare n) (signs Out s)

@@ -9,7 +9,7 @@ ghost use lib.ListN.{length, drop, set};
 ghost use lib.Seq.{sets};
 ghost use lib.Dec.{eqb};
 ghost use Rattle.text.specs.Bytes.{oneOf};
-ghost use Rattle.text.specs.Lists.{anyOf, runLen, parts};
+ghost use Rattle.text.specs.Lists.{allOf, anyOf, runLen, parts};
 ghost use Rattle.text.specs.Room.{fitted, filled};
 ghost use Rattle.terms.specs.Signs.{twelve, two, after, gives, atEnd, stands, meant, isBare, hasBare};
 ghost use Rattle.terms.specs.Marks.{isMark, hasMark, startsBare};
@@ -214,11 +214,38 @@ fn opened(inside: bool, mark: bool, i: usize, q: usize) -> usize
     q
 }
 
+// Whether no byte of a text is a GRAVE or a `"`. The loop has no other way out, so that many bytes are compared at once.
+fn all_ordinary(s: &[u8]) -> bool
+    ensures { λ r. ⌜ r ≡ allOf (ordinary 34) (now (s .entry)) ⌝ }
+{
+    let mut all = true;
+    let mut i: usize = 0;
+    while i < s.len() {
+        all = all & is_ordinary(s[i], b'"');
+        i += 1;
+    }
+    all
+}
+
+// Where the blocks of sixteen such bytes that a line begins with end.
+fn ordinary_blocks(line: &[u8]) -> usize
+    ensures { λ r. ⌜ r + runLen (ordinary 34) (drop r (now (line .entry))) ≡ runLen (ordinary 34) (now (line .entry)) ⌝ }
+{
+    let mut i: usize = 0;
+    while 16 <= line.len() - i {
+        if !all_ordinary(&line[i..i + 16]) {
+            return i;
+        }
+        i += 16;
+    }
+    i
+}
+
 // Rows 3 and 4: whether the line ends in a GRAVE that escapes nothing, or in a quote. The mode is kept as two tests, inside quotes and taken by a GRAVE, so that no byte is branched on.
 fn open_flaw(line: &[u8]) -> Verdict
     ensures { λ r. ⌜ r ≡ openFlaw (now (line .entry)) ⌝ }
 {
-    let mut i = ordinary_len(line, b'"');
+    let mut i = ordinary_blocks(line);
     let mut inside = false;
     let mut taken = false;
     let mut q: usize = 0;

@@ -12,6 +12,7 @@ use lib.Dec.{eqb}
 use borrow.Author.Tests.{eq-eqb, ne-eqb}
 use Rattle.text.specs.Lists.{allOf, anyOf, runLen, walk}
 use Rattle.text.specs.Bytes.{sameBytes}
+use Rattle.text.proofs.Slices.{part-between, length-between, part-rest}
 use Rattle.text.proofs.Basics.{and-l, and-r}
 
 -- a list from a place on, for any default
@@ -91,6 +92,21 @@ module _ {A : Type 0} (f : A → Bool) where
   all-at (x ∷ l) d e zero h = and-l (f x) (allOf f l) e
   all-at (x ∷ l) d e (suc i) h = all-at l d (and-r (f x) (allOf f l) e) i (omega arith)
 
+-- a run goes on after a list that passes the test
+pub run-over : {A : Type 0} (f : A → Bool) (a r : List A) → allOf f a ≡ true → runLen f (a ++ r) ≡ length a + runLen f r
+unfolding runLen allOf
+run-over f [] r e = let z : runLen f r ≡ 0 + runLen f r = omega arith in z
+run-over f (x ∷ a) r e = rw (and-l (f x) (allOf f a) e) (let ih = run-over f a r (and-r (f x) (allOf f a) e) in omega arith)
+
+-- the same of a part of a text, `&l[i..i + n]`
+pub run-part : {A : Type 0} (f : A → Bool) (l : List A) (i n : ℕ) → i + n ≤ length l → allOf f (take (i + n - i) (drop i l)) ≡ true → runLen f (drop i l) ≡ n + runLen f (drop (i + n) l)
+run-part f l i n h e =
+    let a : allOf f (take n (drop i l)) ≡ true = sym (ap (allOf f) (part-between l i n)) ∙ e in
+    let r = run-over f (take n (drop i l)) (drop (i + n) l) a in
+    let d = ap (runLen f) (part-rest l i n) in
+    let k = length-between l i n h in
+    omega arith
+
 -- an automaton goes on after a list as from the state that it leaves
 pub walk-over : {S A : Type 0} (f : S → A → S) (v : S) (a r : List A) → walk f v (a ++ r) ≡ walk f (walk f v a) r
 unfolding walk
@@ -133,6 +149,16 @@ module _ {A : Type 0} (f : A → Bool) (l : List A) (i : ℕ) (h : length l ≤ 
   pub any-past-end : anyOf f (drop i l) ≡ false
   unfolding anyOf
   any-past-end = rw (drop-of-length-le l h)
+
+-- a test of all that goes on to the end: a is what it has found so far, p what it finds at i
+pub all-kept : (f : ℕ → Bool) (l : List ℕ) (i : ℕ) (a p : Bool) → i < length l → p ≡ f (getD l i 0) → (a && p) && allOf f (drop (i + 1) l) ≡ a && allOf f (drop i l)
+unfolding allOf
+all-kept f l i true p h e = rw (e, drop-step l i h)
+all-kept f l i false p h e = refl
+
+pub all-ended : (f : ℕ → Bool) (l : List ℕ) (i : ℕ) (a : Bool) → length l ≤ i → a && allOf f (drop i l) ≡ a
+all-ended f l i true h = all-past-end f l i h
+all-ended f l i false h = refl
 
 -- texts of two lengths differ
 pub same-length : (a b : List ℕ) → (length a ≡ length b → ⊥) → sameBytes a b ≡ false

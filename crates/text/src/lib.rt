@@ -1,9 +1,9 @@
 // What every layer uses: classes of bytes, equal texts, decimal numbers, and writing into lent room.
 ghost use mathlib.Core.Path.{_≡_};
 ghost use Prim.Native.Nat.{_+_, _*_};
-ghost use lib.ListN.{set, length};
+ghost use lib.ListN.{set, length, drop};
 ghost use lib.Seq.{sets};
-ghost use Rattle.text.specs.Lists.{runLen};
+ghost use Rattle.text.specs.Lists.{allOf, runLen};
 ghost use Rattle.text.specs.Bytes.{sameBytes, isLetter, isDigit, isWord, printable};
 ghost use Rattle.text.specs.Decimal.{decimalOf, width, digits};
 ghost use Rattle.text.specs.Room.{two};
@@ -118,11 +118,38 @@ pub fn words_len(s: &[u8]) -> usize
     i
 }
 
+// Whether all bytes of a text are printable. The loop has no other way out, so that many bytes are compared at once.
+fn all_printable(s: &[u8]) -> bool
+    ensures { λ r. ⌜ r ≡ allOf printable (now (s .entry)) ⌝ }
+{
+    let mut all = true;
+    let mut i: usize = 0;
+    while i < s.len() {
+        all = all & is_printable(s[i]);
+        i += 1;
+    }
+    all
+}
+
+// Where the blocks of sixteen printable bytes that a text begins with end.
+fn printable_blocks(s: &[u8]) -> usize
+    ensures { λ r. ⌜ r + runLen printable (drop r (now (s .entry))) ≡ runLen printable (now (s .entry)) ⌝ }
+{
+    let mut i: usize = 0;
+    while 16 <= s.len() - i {
+        if !all_printable(&s[i..i + 16]) {
+            return i;
+        }
+        i += 16;
+    }
+    i
+}
+
 // How many printable bytes a text begins with.
 pub fn printable_len(s: &[u8]) -> usize
     ensures { λ r. ⌜ r ≡ runLen printable (now (s .entry)) ⌝ }
 {
-    let mut i: usize = 0;
+    let mut i = printable_blocks(s);
     while i < s.len() {
         if !is_printable(s[i]) {
             return i;

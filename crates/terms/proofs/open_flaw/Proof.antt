@@ -16,7 +16,7 @@ use Rattle.terms.specs.Signs.{after}
 use Rattle.terms.specs.Rows.{endMode, opens, openedAt, endFlaw, openFlaw}
 use Rattle.terms.specs.Scan.{ordinary}
 use Rattle.terms.proofs.ByteCases.{out-case, in-case}
-use Rattle.terms.proofs.RunLaws.{run-mode, run-opened-first}
+use Rattle.terms.proofs.RunLaws.{run-mode-from, run-opened-from}
 use Rattle.terms.proofs.ScanLaws.{opened-on, open-is}
 use Rattle.terms.proofs.open_flaw.Statement.{statement}
 use Rattle.terms.proofs.open_flaw.Tie as tie
@@ -24,7 +24,7 @@ use Rattle.terms.proofs.open_flaw.Reads as reads
 use Rattle.terms.proofs.open_flaw.Lts as lts
 use Rattle.terms.proofs.is_free.Reads as is-free-reads
 use Rattle.terms.proofs.opened.Reads as opened-reads
-use Rattle.terms.proofs.ordinary_len.Reads as ordinary-len-reads
+use Rattle.terms.proofs.ordinary_blocks.Reads as ordinary-blocks-reads
 use Rattle.terms.proofs.turned.Reads as turned-reads
 
 -- ---- the mode as two tests: inside quotes or not, and whether a GRAVE takes the next byte
@@ -82,16 +82,16 @@ ended c =
     let l = c .before .loop in
     open-is (c .before .before .before .before .args .line .now) (l .i) (modeOf (l .inside) (l .taken)) (l .q) (c .loop-test .left) (l .inv .2) (l .inv .0) (l .inv .1)
 
-ordinary-len-requires : tie.Need-ordinary-len-requires Inv-loop μ-loop
-ordinary-len-requires c κs = search needs
+ordinary-blocks-requires : tie.Need-ordinary-blocks-requires Inv-loop μ-loop
+ordinary-blocks-requires c κs = search needs
 
 loop-holds : tie.Need-loop-holds Inv-loop μ-loop
 loop-holds c =
     let l = c .before .before .args .line .now in
-    let e = c .ordinary-len .ensures in (
-      ap (λ (k : ℕ). endMode Out (drop k l)) e ∙ run-mode 34 l,
-      ap (λ (k : ℕ). openedAt Out k 0 (drop k l)) e ∙ run-opened-first 34 l,
-      omega (arith, e, run-within (ordinary 34) l),
+    let n = c .ordinary-blocks in (
+      run-mode-from 34 l (n .result) (n .ensures),
+      run-opened-from 34 l (n .result) (n .ensures),
+      omega (arith, n .ensures, run-within (ordinary 34) l),
       λ _. refl,
     )
 
@@ -160,7 +160,7 @@ open-flaw-spec =
     (tie.spec
     Inv-loop
     μ-loop
-    ordinary-len-requires
+    ordinary-blocks-requires
     loop-holds
     shared-slice-read-b
     is-free-requires

@@ -13,6 +13,7 @@ use Rattle.text.proofs.printable_len.Tie as tie
 use Rattle.text.proofs.printable_len.Reads as reads
 use Rattle.text.proofs.printable_len.Lts as lts
 use Rattle.text.proofs.is_printable.Reads as is-printable-reads
+use Rattle.text.proofs.printable_blocks.Reads as printable-blocks-reads
 
 abbrev Inv-loop : tie.InvT-loop
 Inv-loop s i₀ i = i + runLen printable (drop i s) ≡ runLen printable s
@@ -20,8 +21,11 @@ Inv-loop s i₀ i = i + runLen printable (drop i s) ≡ runLen printable s
 abbrev μ-loop : tie.MeasureT-loop
 μ-loop s i₀ i = length s - i
 
+printable-blocks-requires : tie.Need-printable-blocks-requires Inv-loop μ-loop
+printable-blocks-requires c κs = search needs
+
 loop-holds : tie.Need-loop-holds Inv-loop μ-loop
-loop-holds c = omega arith
+loop-holds c = c .printable-blocks .ensures
 
 shared-slice-read-is-printable : tie.Need-shared-slice-read-is-printable Inv-loop μ-loop
 shared-slice-read-is-printable c = search needs
@@ -34,7 +38,7 @@ returns c =
     let at = c .before .before .before .before in
     let t = c .before .is-printable in
     let e = sym (t .ensures) ∙ not-true (t .result) (c .if1 .taken) in
-    omega (arith, at .loop .inv, run-ends printable (at .before .before .args .s .now) (at .loop .i) (omega arith) e)
+    omega (arith, at .loop .inv, run-ends printable (at .before .before .before .args .s .now) (at .loop .i) (omega arith) e)
 
 add-i : tie.Need-add-i Inv-loop μ-loop
 add-i c = search needs
@@ -47,12 +51,12 @@ loop-again c =
     let at = c .before .before .before .before in
     let t = c .before .is-printable in
     let e = sym (t .ensures) ∙ not-false (t .result) (c .if1 .left) in
-    omega (arith, at .loop .inv, run-on printable (at .before .before .args .s .now) (at .loop .i) (omega arith) e)
+    omega (arith, at .loop .inv, run-on printable (at .before .before .before .args .s .now) (at .loop .i) (omega arith) e)
 
 returns-2 : tie.Need-returns-2 Inv-loop μ-loop
 returns-2 c =
     let at = c .before in
-    omega (arith, at .loop .inv, run-past printable (at .before .before .args .s .now) (at .loop .i) (omega arith))
+    omega (arith, at .loop .inv, run-past printable (at .before .before .before .args .s .now) (at .loop .i) (omega arith))
 
 pub printable-len-spec : {M : Type 1} → statement M
 printable-len-spec =
@@ -60,6 +64,7 @@ printable-len-spec =
     (tie.spec
     Inv-loop
     μ-loop
+    printable-blocks-requires
     loop-holds
     shared-slice-read-is-printable
     is-printable-requires
