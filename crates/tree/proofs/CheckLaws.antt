@@ -1,8 +1,8 @@
 -- What the loops and the tests of the check keep: the answer for the rest is the answer for the whole. Assumes nothing.
 use mathlib.Core.Path.{_≡_, refl, ap, sym, _∙_}
 use Prim.Native.Nat.{ℕ, zero, suc, _+_, _-_, _*_, _/_, _<_, _≤_, min}
-use mathlib.Core.List.{List, [], _∷_}
-use mathlib.Core.Bool.{Bool, true, false, _||_, not, cond, and-false}
+use mathlib.Core.List.{List, [], _∷_, _++_}
+use mathlib.Core.Bool.{Bool, true, false, _||_, not, cond, and-false, or-false}
 use native.Mathlib.Omega.{arith}
 use borrow.Author.Tests.{eq-eqb, ne-eqb, lt-ltb, le-ltb, not-false}
 use lib.Dec.{eqb}
@@ -10,10 +10,11 @@ use lib.ListN.{length, getD, take, drop, length-drop, length-take}
 use lib.Seq.{drop-drop, length-take-le}
 use Rattle.text.specs.Bytes.{sameBytes, isLetter}
 use Rattle.text.specs.Lists.{allOf, anyOf, runLen}
-use Rattle.text.proofs.Basics.{or-in-l, or-in-r, either}
+use Rattle.text.proofs.Basics.{or-in-l, or-in-r, either, any-over}
 use Rattle.text.proofs.Scans.{all-on, all-stops, all-past-end, same-length, all-run, run-all}
 use Rattle.text.proofs.Slices.{part-from, length-from, part-between}
 use Rattle.tree.specs.Tree.{parentIn, tagLenIn, tagIn, paddingIn, numberIn, isZero, sameNode, twinIn, twin, holds, badRecord, records, checkFrom, checkTree}
+use Rattle.tree.specs.Marks.{badForm}
 use Rattle.tree.specs.declared.Checked.the-variants.{Good, Bad}
 
 -- ---- zeros
@@ -40,7 +41,7 @@ module _ (a b : List ℕ) where
   other-number p q e f h = sym (simp (ne-eqb (numberIn a) (numberIn b) (λ z. h (e ∙ z ∙ sym f))) (and-false (eqb (parentIn a) (parentIn b))))
 
   module _ (h : 22 ≤ length a) (k : 22 ≤ length b) (short : tagLenIn b ≤ 16) where
-    lengths : (length (tagIn a) ≡ min (tagLenIn a) (length a - 4)) × (length (tagIn b) ≡ min (tagLenIn b) (length b - 4))
+    pub lengths : (length (tagIn a) ≡ min (tagLenIn a) (length a - 4)) × (length (tagIn b) ≡ min (tagLenIn b) (length b - 4))
     unfolding tagIn
     lengths = (simp (length-take, length-drop), simp (length-take, length-drop))
 
@@ -100,29 +101,29 @@ any-nth [] i e = e
 any-nth (x ∷ l) zero e = or-in-l x (anyOf holds l) e
 any-nth (x ∷ l) (suc i) e = or-in-r x (anyOf holds l) (any-nth l i e)
 
-module _ (e r : List ℕ) (k : ℕ) where
-  pub bad-cut : length r < 22 → true ≡ badRecord e r k
-  unfolding badRecord
+module _ (r : List ℕ) (k : ℕ) where
+  pub bad-cut : length r < 22 → true ≡ badForm r k
+  unfolding badForm
   bad-cut h = sym (any-nth _ 0 (lt-ltb (length r) 22 h))
 
-  pub bad-kind : (getD r 0 0 ≡ 16 → ⊥) → true ≡ badRecord e r k
-  unfolding badRecord
+  pub bad-kind : (getD r 0 0 ≡ 16 → ⊥) → true ≡ badForm r k
+  unfolding badForm
   bad-kind h = sym (any-nth _ 1 (simp (ne-eqb (getD r 0 0) 16 h)))
 
-  pub bad-beyond : 511 < k → true ≡ badRecord e r k
-  unfolding badRecord
+  pub bad-beyond : 511 < k → true ≡ badForm r k
+  unfolding badForm
   bad-beyond h = sym (any-nth _ 2 (lt-ltb 511 k h))
 
-  pub bad-parent : (p : ℕ) → p ≡ parentIn r → k < p → true ≡ badRecord e r k
-  unfolding badRecord
+  pub bad-parent : (p : ℕ) → p ≡ parentIn r → k < p → true ≡ badForm r k
+  unfolding badForm
   bad-parent p q h = sym (any-nth _ 3 (lt-ltb k (parentIn r) (omega arith)))
 
-  pub bad-no-tag : tagLenIn r < 1 → true ≡ badRecord e r k
-  unfolding badRecord
+  pub bad-no-tag : tagLenIn r < 1 → true ≡ badForm r k
+  unfolding badForm
   bad-no-tag h = sym (any-nth _ 4 (lt-ltb (tagLenIn r) 1 h))
 
-  pub bad-long-tag : 16 < tagLenIn r → true ≡ badRecord e r k
-  unfolding badRecord
+  pub bad-long-tag : 16 < tagLenIn r → true ≡ badForm r k
+  unfolding badForm
   bad-long-tag h = sym (any-nth _ 5 (lt-ltb 16 (tagLenIn r) h))
 
   -- the tag and the padding as the code has them
@@ -141,27 +142,26 @@ module _ (e r : List ℕ) (k : ℕ) where
   run-of : (m : ℕ) → m ≡ runLen isLetter (take (4 + tagLenIn r - 4) (drop 4 r)) → m ≡ runLen isLetter (tagIn r)
   run-of m h = h ∙ ap (runLen isLetter) (tag-part (tagLenIn r) refl)
 
-  pub bad-letter : (m : ℕ) → 22 ≤ length r → tagLenIn r ≤ 16 → m ≡ runLen isLetter (take (4 + tagLenIn r - 4) (drop 4 r)) → (m ≡ tagLenIn r → ⊥) → true ≡ badRecord e r k
-  unfolding badRecord
+  pub bad-letter : (m : ℕ) → 22 ≤ length r → tagLenIn r ≤ 16 → m ≡ runLen isLetter (take (4 + tagLenIn r - 4) (drop 4 r)) → (m ≡ tagLenIn r → ⊥) → true ≡ badForm r k
+  unfolding badForm
   bad-letter m h s x n = sym (any-nth _ 6 (either (allOf isLetter (tagIn r)) (λ y. absurd (n (run-of m x ∙ all-run isLetter (tagIn r) y ∙ tag-length h s))) (λ y. simp y)))
 
-  pub bad-padding : (z : Bool) → tagLenIn r ≤ 16 → z ≡ allOf isZero (take (20 - (4 + tagLenIn r)) (drop (4 + tagLenIn r) r)) → not z ≡ true → true ≡ badRecord e r k
-  unfolding badRecord
+  pub bad-padding : (z : Bool) → tagLenIn r ≤ 16 → z ≡ allOf isZero (take (20 - (4 + tagLenIn r)) (drop (4 + tagLenIn r) r)) → not z ≡ true → true ≡ badForm r k
+  unfolding badForm
   bad-padding z s x n = sym (any-nth _ 7 (ap not (ap (allOf isZero) (sym (padding-part s)) ∙ sym x) ∙ n))
 
-  pub bad-number : (m : ℕ) → m ≡ numberIn r → m ≡ 0 → true ≡ badRecord e r k
-  unfolding badRecord
+  pub bad-number : (m : ℕ) → m ≡ numberIn r → m ≡ 0 → true ≡ badForm r k
+  unfolding badForm
   bad-number m x z = sym (any-nth _ 8 (eq-eqb (numberIn r) 0 (sym x ∙ z)))
 
-  -- no other test holds: the twin decides
-  pub by-twin : (p m n : ℕ) (z x : Bool) → 22 ≤ length r → getD r 0 0 ≡ 16 → k ≤ 511 → p ≡ parentIn r → p ≤ k → 1 ≤ tagLenIn r → tagLenIn r ≤ 16
+  -- no test holds
+  pub form-good : (p m n : ℕ) (z : Bool) → 22 ≤ length r → getD r 0 0 ≡ 16 → k ≤ 511 → p ≡ parentIn r → p ≤ k → 1 ≤ tagLenIn r → tagLenIn r ≤ 16
       → m ≡ runLen isLetter (take (4 + tagLenIn r - 4) (drop 4 r)) → m ≡ tagLenIn r
-      → z ≡ allOf isZero (take (20 - (4 + tagLenIn r)) (drop (4 + tagLenIn r) r)) → not z ≡ false → n ≡ numberIn r → (n ≡ 0 → ⊥) → x ≡ twin e r → x ≡ badRecord e r k
-  unfolding badRecord anyOf
-  by-twin p m n z x cut kind beyond q low one short run all pad nought nu pos tw =
+      → z ≡ allOf isZero (take (20 - (4 + tagLenIn r)) (drop (4 + tagLenIn r) r)) → not z ≡ false → n ≡ numberIn r → (n ≡ 0 → ⊥) → false ≡ badForm r k
+  unfolding badForm anyOf
+  form-good p m n z cut kind beyond q low one short run all pad nought nu pos =
       let l : allOf isLetter (tagIn r) ≡ true = run-all isLetter (tagIn r) (sym (run-of m run) ∙ all ∙ sym (tag-length cut short)) in
       let y : allOf isZero (paddingIn r) ≡ true = ap (allOf isZero) (sym (padding-part short)) ∙ sym pad ∙ not-false z nought in
-      let t : twin e r ≡ x = sym tw in
       sym
       (simp (
         le-ltb (length r) 22 cut,
@@ -173,37 +173,42 @@ module _ (e r : List ℕ) (k : ℕ) where
         l,
         y,
         ne-eqb (numberIn r) 0 (λ w. pos (nu ∙ w)),
-        t,
-      )
-      (or-none x))
-    where
-      or-none : (b : Bool) → b || false ≡ b
-      or-none true = refl
-      or-none false = refl
+      ))
 
 -- ---- the check
 
-module _ (t : List ℕ) (k p : ℕ) (r : Bool) where
-  check-step : k < records t
-      → checkFrom (records t - k) t k ≡ cond (badRecord (take (22 * k) t) (drop (22 * k) t) k) (Bad (22 * k)) (checkFrom (records t - (k + 1)) t (k + 1))
+-- a record is bad by its own bytes or by a twin: the twin is the last of the tests
+any-last : (l : List Bool) (x : Bool) → anyOf holds (l ++ (x ∷ [])) ≡ (anyOf holds l || x)
+unfolding anyOf
+any-last l x = any-over holds l (x ∷ []) ∙ ap (λ (b : Bool). anyOf holds l || b) (or-false x)
+
+bad-by : (e r : List ℕ) (k : ℕ) → badRecord e r k ≡ (badForm r k || twin e r)
+unfolding badRecord badForm
+bad-by e r k = any-last _ (twin e r)
+
+module _ (t : List ℕ) (k p : ℕ) (x : Bool) (h : p < length t) (e : p ≡ 22 * k) (l : k ≤ records t) (inv : checkFrom (records t - k) t k ≡ checkTree t)
+    (form : x ≡ badForm (take (length t - p) (drop p t)) k) where
+  check-step : checkTree t ≡ cond (x || twin (take p t) (take (length t - p) (drop p t))) (Bad p) (checkFrom (records t - (k + 1)) t (k + 1))
   unfolding checkFrom
-  check-step h = let m : records t - k ≡ suc (records t - (k + 1)) = omega arith in rw m
+  check-step =
+      let m : records t - k ≡ suc (records t - (k + 1)) = omega arith in
+      let rest = checkFrom (records t - (k + 1)) t (k + 1) in
+      sym inv
+      ∙ ap (λ (n : ℕ). checkFrom n t k) m
+      ∙ ap (λ (q : ℕ). cond (badRecord (take q t) (drop q t) k) (Bad q) rest) (sym e)
+      ∙ ap (λ (r : List ℕ). cond (badRecord (take p t) r k) (Bad p) rest) (sym (part-from t p))
+      ∙ ap (λ (b : Bool). cond b (Bad p) rest)
+      (bad-by (take p t) (take (length t - p) (drop p t)) k ∙ ap (λ (b : Bool). b || twin (take p t) (take (length t - p) (drop p t))) (sym form))
 
-  at-place : p ≡ 22 * k → r ≡ badRecord (take p t) (take (length t - p) (drop p t)) k → badRecord (take (22 * k) t) (drop (22 * k) t) k ≡ r
-  at-place e x =
-      sym (x ∙ ap (λ (l : List ℕ). badRecord (take p t) l k) (part-from t p) ∙ ap (λ (q : ℕ). badRecord (take q t) (drop q t) k) e)
+  pub stop-form : x ≡ true → Bad p ≡ checkTree t
+  stop-form y = sym (check-step ∙ simp y)
 
-  pub check-again : p < length t → p ≡ 22 * k → k ≤ records t → checkFrom (records t - k) t k ≡ checkTree t
-      → r ≡ badRecord (take p t) (take (length t - p) (drop p t)) k → r ≡ false → checkFrom (records t - (k + 1)) t (k + 1) ≡ checkTree t
-  check-again h e l inv x y =
-      sym (check-step (omega arith) ∙ ap (λ (b : Bool). cond b (Bad (22 * k)) (checkFrom (records t - (k + 1)) t (k + 1))) (at-place e x ∙ y)) ∙ inv
+  module _ (y : Bool) (other : x ≡ false) (pair : y ≡ twin (take p t) (take (length t - p) (drop p t))) where
+    pub stop-twin : y ≡ true → Bad p ≡ checkTree t
+    stop-twin z = sym (check-step ∙ simp (other, sym pair ∙ z))
 
-  pub check-stop : p < length t → p ≡ 22 * k → k ≤ records t → checkFrom (records t - k) t k ≡ checkTree t
-      → r ≡ badRecord (take p t) (take (length t - p) (drop p t)) k → r ≡ true → Bad p ≡ checkTree t
-  check-stop h e l inv x y =
-      ap Bad e
-      ∙ sym (check-step (omega arith) ∙ ap (λ (b : Bool). cond b (Bad (22 * k)) (checkFrom (records t - (k + 1)) t (k + 1))) (at-place e x ∙ y))
-      ∙ inv
+    pub check-again : y ≡ false → checkFrom (records t - (k + 1)) t (k + 1) ≡ checkTree t
+    check-again z = sym (check-step ∙ simp (other, sym pair ∙ z))
 
 module _ (t : List ℕ) where
   pub check-end : (k p : ℕ) → length t ≤ p → p ≡ 22 * k → k ≤ records t → checkFrom (records t - k) t k ≡ checkTree t → Good ≡ checkTree t

@@ -20,7 +20,7 @@ not-bad true p x e = let z : _≡_ {A = ℕ} 0 1 = cc in absurd (omega arith)
 not-bad false p x e = (refl, e)
 
 -- where none of the tests holds, each fails
-none-at : (l : List Bool) (i : ℕ) → anyOf holds l ≡ false → getD l i false ≡ false
+pub none-at : (l : List Bool) (i : ℕ) → anyOf holds l ≡ false → getD l i false ≡ false
 none-at l i e = either (getD l i false) (λ y. no-case (sym (any-nth l i y) ∙ e)) (λ y. y)
 
 -- record j of n that follow the first k

@@ -1,5 +1,6 @@
 pub mod CheckLaws
 pub mod GoodLaws
+pub mod MarkLaws
 pub mod UpLaws
 pub mod StepLaws
 pub mod FollowLaws

@@ -1,4 +1,5 @@
 pub mod Tree
+pub mod Marks
 pub mod Path
 pub mod Resolve
 pub mod Steps

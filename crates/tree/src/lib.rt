@@ -2,11 +2,12 @@
 ghost use mathlib.Core.Path.{_≡_};
 ghost use Prim.Native.Nat.{_+_, _*_, _≤_, _<_};
 ghost use mathlib.Core.List.{[], _∷_};
-ghost use mathlib.Core.Bool.{cond};
+ghost use mathlib.Core.Bool.{cond, false};
 ghost use lib.ListN.{length, set};
 ghost use lib.Seq.{sets};
 ghost use Rattle.text.specs.Lists.{allOf};
-ghost use Rattle.tree.specs.Tree.{isZero, tagLenIn, sameNode, twin, badRecord, checkTree, records, recordAt, parent, number};
+ghost use Rattle.tree.specs.Tree.{isZero, tagLenIn, sameNode, twin, checkTree, records, recordAt, parent, number};
+ghost use Rattle.tree.specs.Marks.{badForm, mixed, mixOf};
 ghost use Rattle.tree.specs.Resolve.{taggedUnder, namedUnder, inTree, resolvedBy, listBy, resolveOf, resolveList, session′, nodes};
 ghost use Rattle.tree.specs.Steps.{taggedIn, namedIn, firstOf, kept, verdictOf, alongFrom, starred, foundAt, Within};
 ghost use Rattle.tree.specs.Path.{segment, pathUp, pathAnswer, pathRoom};
@@ -82,9 +83,9 @@ fn twin(e: &[u8], r: &[u8]) -> bool
     false
 }
 
-// The record that r begins with, the one after k others, is bad; e has those others.
-fn bad_record(e: &[u8], r: &[u8], k: usize) -> bool
-    ensures { λ x. ⌜ x ≡ badRecord (now (e .entry)) (now (r .entry)) k ⌝ }
+// The record that r begins with, the one after k others, is bad by its own bytes.
+fn bad_form(r: &[u8], k: usize) -> bool
+    ensures { λ x. ⌜ x ≡ badForm (now (r .entry)) k ⌝ }
 {
     if r.len() < 22 {
         return true;
@@ -115,26 +116,8 @@ fn bad_record(e: &[u8], r: &[u8], k: usize) -> bool
     if text::pair(r[20], r[21]) == 0 {
         return true;
     }
-    twin(e, r)
+    false
 }
-
-// Whether a tree is good, or where its first bad record starts.
-pub fn check(t: &[u8]) -> Checked
-    ensures { λ r. ⌜ r ≡ checkTree (now (t .entry)) ⌝ }
-{
-    let mut k: usize = 0;
-    let mut p: usize = 0;
-    while p < t.len() {
-        if bad_record(&t[..p], &t[p..], k) {
-            return Checked::Bad(p);
-        }
-        p += 22;
-        k += 1;
-    }
-    Checked::Good
-}
-
-// ---- the full path of a node
 
 // A number's two bytes, high first.
 fn be16(high: u8, low: u8) -> u16
@@ -142,6 +125,72 @@ fn be16(high: u8, low: u8) -> u16
 {
     256 * (high as u16) + (low as u16)
 }
+
+// A parent, a number, a tag's length and its first and last letter, in one number.
+fn mixed(parent: u16, number: u16, tag: u8, ends: u16) -> usize
+    ensures { λ r. ⌜ r ≡ mixed parent number tag ends ⌝ }
+{
+    2286423 * (parent as usize)
+        + 5970133 * (number as usize)
+        + 5079001 * (tag as usize)
+        + 3506843 * (ends as usize)
+}
+
+// Those of the record that r begins with: what tells the places of its marks.
+fn mix(r: &[u8]) -> usize
+    requires { ⌜ (22 ≤ length (now r)) × (tagLenIn (now r) ≤ 16) ⌝ }
+    ensures { λ x. ⌜ x ≡ mixOf (now (r .entry)) ⌝ }
+{
+    let last = 3 + r[3] as usize;
+    mixed(
+        be16(r[1], r[2]),
+        be16(r[20], r[21]),
+        r[3],
+        be16(r[4], r[last]),
+    )
+}
+
+// Some whole record of e is the same node as r. If one of its two marks is missing there is none, and nothing is compared.
+fn marked_twin(e: &[u8], r: &[u8], one: bool, other: bool) -> bool
+    requires { ⌜ (22 ≤ length (now r)) × (tagLenIn (now r) ≤ 16) × (one ≡ false → twin (now e) (now r) ≡ false) × (other ≡ false → twin (now e) (now r) ≡ false) ⌝ }
+    ensures { λ x. ⌜ x ≡ twin (now (e .entry)) (now (r .entry)) ⌝ }
+{
+    if !one {
+        return false;
+    }
+    if !other {
+        return false;
+    }
+    twin(e, r)
+}
+
+// Whether a tree is good, or where its first bad record starts.
+pub fn check(t: &[u8]) -> Checked
+    ensures { λ r. ⌜ r ≡ checkTree (now (t .entry)) ⌝ }
+{
+    // Each record that is passed leaves its two marks here.
+    let mut marks = [false; 4096];
+    let mut k: usize = 0;
+    let mut p: usize = 0;
+    while p < t.len() {
+        if bad_form(&t[p..], k) {
+            return Checked::Bad(p);
+        }
+        let m = mix(&t[p..]);
+        let mark = m % 4096;
+        let other = m / 4096 % 4096;
+        if marked_twin(&t[..p], &t[p..], marks[mark], marks[other]) {
+            return Checked::Bad(p);
+        }
+        marks[mark] = true;
+        marks[other] = true;
+        p += 22;
+        k += 1;
+    }
+    Checked::Good
+}
+
+// ---- the full path of a node
 
 // The parent of a node: a lower one.
 fn parent(t: &[u8], k: usize) -> usize

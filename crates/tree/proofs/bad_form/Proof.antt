@@ -1,8 +1,8 @@
--- `tree::bad_record` meets its contract.
+-- `tree::bad_form` meets its contract.
 use borrow.Author.Needs.{needs}
-use Rattle.tree.proofs.bad_record.Statement.{statement}
-use Rattle.tree.proofs.bad_record.Tie as tie
-use Rattle.tree.proofs.CheckLaws.{bad-cut, bad-kind, bad-beyond, bad-parent, bad-no-tag, bad-long-tag, bad-letter, bad-padding, bad-number, by-twin}
+use Rattle.tree.proofs.bad_form.Statement.{statement}
+use Rattle.tree.proofs.bad_form.Tie as tie
+use Rattle.tree.proofs.CheckLaws.{bad-cut, bad-kind, bad-beyond, bad-parent, bad-no-tag, bad-long-tag, bad-letter, bad-padding, bad-number, form-good}
 
 returns : tie.Need-returns
 returns c = search (bad-cut, needs)
@@ -91,14 +91,11 @@ pair-requires-2 c κs = search needs
 returns-9 : tie.Need-returns-9
 returns-9 c = search (bad-number, needs)
 
-twin-requires : tie.Need-twin-requires
-twin-requires c κs = search needs
-
 returns-10 : tie.Need-returns-10
-returns-10 c = search (by-twin, needs)
+returns-10 c = search (form-good, needs)
 
-pub bad-record-spec : {M : Type 1} → statement M
-bad-record-spec =
+pub bad-form-spec : {M : Type 1} → statement M
+bad-form-spec =
     tie.close
     (tie.spec
     returns
@@ -130,5 +127,4 @@ bad-record-spec =
     shared-slice-read-pair-4
     pair-requires-2
     returns-9
-    twin-requires
     returns-10)
