@@ -3,7 +3,6 @@
 //! clp_bench CLPLIST CLPLIST_RS: the two listers' programs, which are timed end to end.
 
 mod input;
-mod same_way;
 mod timing;
 mod work;
 
@@ -31,11 +30,9 @@ fn main() {
     for nodes in [8, 64, 512] {
         let tree = clp_gen::tree::intact_tree(&mut rng, nodes).bytes;
         Row::new("check tree", nodes, "nodes", work::checks(&tree)).show();
-        Row::new("check tree, same way", nodes, "nodes", work::checks_same_way(&tree)).show();
     }
     let (tree, path) = input::deep_tree();
     Row::new("resolve 16 segments", tree.len() / 22, "nodes", work::resolves(&tree, &path)).show();
-    Row::new("resolve 16, same way", tree.len() / 22, "nodes", work::resolves_same_way(&tree, &path)).show();
     let programs: Vec<String> = std::env::args().skip(1).collect();
     if let [ours, theirs] = &programs[..] {
         for size in [1 << 16, MEGA, 16 * MEGA, 100 * MEGA] {

@@ -1,6 +1,5 @@
 //! The two libraries at the same work: seconds of the proved one, seconds of the Rust one.
 
-use crate::same_way::{first_bad, node_at};
 use crate::timing::seconds_of_both;
 use clp_face as face;
 use clp_reader::{canonical, joiner, reading, tree};
@@ -72,19 +71,5 @@ pub fn resolves(bytes: &[u8], path: &[u8]) -> (f64, f64) {
     seconds_of_both(
         || keep(face::resolve(black_box(path), bytes, 0, &mut our_list)),
         || keep(tree::resolve(black_box(path), bytes, 0, &mut their_list)),
-    )
-}
-
-pub fn checks_same_way(bytes: &[u8]) -> (f64, f64) {
-    assert_eq!((first_bad(bytes), face::check_tree(bytes).number), (None, 0));
-    seconds_of_both(|| keep(face::check_tree(black_box(bytes))), || keep(first_bad(black_box(bytes))))
-}
-
-pub fn resolves_same_way(bytes: &[u8], path: &[u8]) -> (f64, f64) {
-    let mut list = [0; 512];
-    assert_eq!((face::resolve(path, bytes, 0, &mut list).value, node_at(path, bytes)), (1, Some(usize::from(list[0]))));
-    seconds_of_both(
-        || keep(face::resolve(black_box(path), bytes, 0, &mut list)),
-        || keep(node_at(black_box(path), bytes)),
     )
 }
