@@ -7,16 +7,17 @@ use mathlib.Core.Option.{Option, none, some}
 use native.Mathlib.Omega.{arith}
 use lib.ListN.{drop}
 use Rattle.canonical.specs.Canonical.{writeEntry, writeOptional, writeProperty, writeSaid, writeValue}
-use Rattle.forms.specs.Forms.{Entry, Property, Said, Value, alone, entry, entryOf, equals, hasEq, isName, matches, property, propertyOf, saidOf, starts, topicOf, valueOf}
+use Rattle.forms.specs.Forms.{Entry, Property, Said, Value, alone, entry, entryOf, equals, hasEq, isName, matches, property, propertyOf, saidOf, topicOf}
 use Rattle.terms.specs.Signs.{Sign, bare, isBare, raws, bares}
 use Rattle.text.specs.Bytes.{isWord}
-use Rattle.text.specs.Lists.{allOf, anyOf, given, isNil, past, upTo}
+use Rattle.text.specs.Lists.{allOf, anyOf, isNil, past, upTo}
 use Rattle.canonical.proofs.Lexing.{okBare, good}
 use Rattle.canonical.proofs.Frame.{cleanSign}
 use Rattle.canonical.proofs.Values.{word-ok, good-bares, okValue, value-again, value-good, value-no-eq, value-ok, no-word-61}
-use Rattle.text.proofs.Basics.{and-l, and-r, and-in, no-case, all-past, up-at, past-at, any-at, all-mono, given-some, cond-some, all-drop}
+use Rattle.text.proofs.Basics.{and-l, and-r, and-in, no-case, all-past, up-at, past-at, any-at, all-mono, all-drop}
 use Rattle.terms.proofs.TermLaws.{raws-bares, none-bares}
 use Rattle.forms.proofs.PropertyLaws.{name-words}
+use Rattle.forms.proofs.FormCases.{said-from, property-from, topic-from, entry-from}
 
 -- ---- a name, `=` and more
 
@@ -100,47 +101,29 @@ pub record SaidOk (s : Said) : Type 0 where
   pub has : (n : List ℕ) → hasEq (bares n ++ writeSaid s) ≡ true
 
 said-ok : (t : List Sign) (s : Said) → saidOf t ≡ some s → allOf cleanSign t ≡ true → SaidOk s
-unfolding saidOf okSaid
-said-ok t s h e = go (starts 61 t) refl
-  where
-    go : (x : Bool) → starts 61 t ≡ x → SaidOk s
-    go true p =
-        let g = given-some (valueOf (drop 1 t)) (λ v. some (matches v)) s (rw p at h) in
-        let z : s ≡ matches (g .what) = cc (g .gives) in
-        rw z (record { ok = value-ok (drop 1 t) (g .what) (g .is) (all-drop cleanSign 1 t e); has = λ n. name-has n (bare 61 ∷ writeValue (g .what)) })
-    go false p =
-        let g = given-some (valueOf t) (λ v. some (equals v)) s (rw p at h) in
-        let z : s ≡ equals (g .what) = cc (g .gives) in
-        rw z (record { ok = value-ok t (g .what) (g .is) e; has = λ n. name-has n (writeValue (g .what)) })
+unfolding okSaid
+said-ok t s h e =
+    said-from SaidOk t (λ v p k. record { ok = value-ok (drop 1 t) v k (all-drop cleanSign 1 t e); has = λ n. name-has n (bare 61 ∷ writeValue v) })
+    (λ v p k. record { ok = value-ok t v k e; has = λ n. name-has n (writeValue v) }) s h
 
 pub record PropertyOk (t : List Sign) (p : Property) : Type 0 where
   pub ok : okProperty p ≡ true
   pub has : hasEq t ≡ true → hasEq (writeProperty p) ≡ true
 
 pub property-ok : (t : List Sign) (p : Property) → propertyOf t ≡ some p → allOf cleanSign t ≡ true → PropertyOk t p
-unfolding propertyOf okProperty writeProperty okSaid
-property-ok t p h e = go (hasEq t) refl
-  where
-    go : (x : Bool) → hasEq t ≡ x → PropertyOk t p
-    go true q =
-        let n = raws (upTo (isBare 61) t) in
-        let c = cond-some (isName n) (given (saidOf (past (isBare 61) t)) (λ s. some (property n s))) p (rw q at h) in
-        let g = given-some (saidOf (past (isBare 61) t)) (λ s. some (property n s)) p (c .1) in
-        let z : p ≡ property n (g .what) = cc (g .gives) in
-        let s = said-ok (past (isBare 61) t) (g .what) (g .is) (all-past cleanSign (isBare 61) t e) in
-        rw z (record { ok = and-in (isName n) (okSaid (g .what)) (c .0) (s .ok); has = λ _. s .has n })
-    go false q =
-        let c = cond-some (isName (raws t)) (some (property (raws t) alone)) p (rw q at h) in
-        let z : p ≡ property (raws t) alone = cc (c .1) in
-        rw z (record { ok = and-in (isName (raws t)) true (c .0) refl; has = λ y. no-case (sym y ∙ q) })
+unfolding okProperty writeProperty okSaid
+property-ok t p h e =
+    property-from (PropertyOk t) t (λ q n. record { ok = and-in (isName (raws t)) true n refl; has = λ y. no-case (sym y ∙ q) })
+    (λ s q n k.
+    let m = raws (upTo (isBare 61) t) in
+    let o = said-ok (past (isBare 61) t) s k (all-past cleanSign (isBare 61) t e) in
+    record { ok = and-in (isName m) (okSaid s) n (o .ok); has = λ _. o .has m }) p h
 
 -- topics
 pub topic-again : (p : Property) (t : List Sign) → topicOf t ≡ some p → (topicOf (writeProperty p) ≡ some p) × (okProperty p ≡ true)
 unfolding topicOf okProperty writeProperty okSaid
 topic-again p t h =
-    let c = cond-some (isName (raws t)) (some (property (raws t) alone)) p h in
-    let z : p ≡ property (raws t) alone = cc (c .1) in
-    rw z (simp (append-nil, raws-bares (raws t), c .0), and-in (isName (raws t)) true (c .0) refl)
+    topic-from (λ q. (topicOf (writeProperty q) ≡ some q) × (okProperty q ≡ true)) t (λ n. (simp (append-nil, raws-bares (raws t), n), and-in (isName (raws t)) true n refl)) p h
 
 -- ---- entries
 
@@ -173,17 +156,7 @@ entry-good e w k =
     ∙ optional-good (e .value) w (and-r (isName (e .name)) (okOptional (e .value)) k)
 
 pub entry-ok : (t : List Sign) (e : Entry) → entryOf t ≡ some e → allOf cleanSign t ≡ true → okEntry e ≡ true
-unfolding entryOf okEntry okOptional
-entry-ok t e h k = go (hasEq t) refl
-  where
-    go : (x : Bool) → hasEq t ≡ x → okEntry e ≡ true
-    go true q =
-        let n = raws (upTo (isBare 61) t) in
-        let c = cond-some (isName n) (given (valueOf (past (isBare 61) t)) (λ v. some (entry n (some v)))) e (rw q at h) in
-        let g = given-some (valueOf (past (isBare 61) t)) (λ v. some (entry n (some v))) e (c .1) in
-        let z : e ≡ entry n (some (g .what)) = cc (g .gives) in
-        rw z (and-in (isName n) (okValue (g .what)) (c .0) (value-ok (past (isBare 61) t) (g .what) (g .is) (all-past cleanSign (isBare 61) t k)))
-    go false q =
-        let c = cond-some (isName (raws t)) (some (entry (raws t) none)) e (rw q at h) in
-        let z : e ≡ entry (raws t) none = cc (c .1) in
-        rw z (and-in (isName (raws t)) true (c .0) refl)
+unfolding okEntry okOptional
+entry-ok t e h k =
+    entry-from (λ x. okEntry x ≡ true) t (λ q n. and-in (isName (raws t)) true n refl)
+    (λ v q n j. and-in (isName (raws (upTo (isBare 61) t))) (okValue v) n (value-ok (past (isBare 61) t) v j (all-past cleanSign (isBare 61) t k))) e h

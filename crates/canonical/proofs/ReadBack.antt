@@ -10,7 +10,7 @@ use lib.Dec.{leb}
 use borrow.Author.Tests.{ne-eqb, not-true, not-false, lt-leb}
 use Rattle.canonical.proofs.Frame as frame
 use Rattle.canonical.specs.Canonical.{writeArgument, writeEntry, writeItem, writeOptional, writePlace, writeProperty, writeSaid, writeTarget, writing}
-use Rattle.forms.specs.Forms.{Entry, Property, entriesOf, hasEq, isKeep, isLevel, isName, isPlace, propertyOf, starts, topicOf}
+use Rattle.forms.specs.Forms.{Entry, Property, hasEq, isKeep, isLevel, isName, propertyOf, starts, topicOf}
 use Rattle.forms.specs.Targets.{Target, targetOf}
 use Rattle.reading.specs.Command.{Argument, Item, argument, argumentBy, items, number, option, prop, target, text, verb}
 use Rattle.reading.specs.Reading.{commandOf, decide, decideAfter, decideArgument, decideIn, decideOption, decideProperty, decideTarget, decideVerb, takes}
@@ -22,7 +22,7 @@ use Rattle.text.specs.Bytes.{isLetter, isWord, printable}
 use Rattle.text.specs.Lists.{allOf, between, each, isNil}
 use Rattle.words.specs.Words.{kindOf, optionName, optionOf, verbName, verbOf}
 use Rattle.words.specs.declared.Kind.{Kind}
-use Rattle.words.specs.declared.Kind.the-variants.{Entries, Keep, Level, Mere, Place}
+use Rattle.words.specs.declared.Kind.the-variants.{Entries, Keep, Level, Place}
 use Rattle.canonical.proofs.Lexing.{good}
 use Rattle.canonical.proofs.Frame.{cleanSign, cleanText, word, Back}
 use Rattle.canonical.proofs.Values.{letter-byte, stands-clean}
@@ -30,9 +30,9 @@ use Rattle.canonical.proofs.Names.{okSaid, okProperty, okEntry, okOptio
 use Rattle.canonical.proofs.Entries.{entries-again, entries-good, entries-some, entries-ok}
 use Rattle.canonical.proofs.Targets.{okWritten, target-ok}
 use Rattle.canonical.proofs.Places.{written-good, written-eq, written-dash, keep-ok, level-ok, place-ok, stands-some, verb-ok, option-ok}
-use Rattle.text.proofs.Basics.{and-l, and-r, no-case, given-some, cond-some, map-some}
+use Rattle.text.proofs.Basics.{and-l, and-r, no-case, map-some}
 use Rattle.terms.proofs.TermLaws.{raws-bares}
-use Rattle.reading.proofs.TakenCases.{taken-case}
+use Rattle.reading.proofs.TakenCases.{taken-case, argument-from}
 
 pub record Again (p : Phase) (help : Bool) (seen : List Bool) (count : ℕ) (i : Item) : Type 0 where
   pub again : decideIn p help seen count (writeItem i) ≡ takes i
@@ -117,25 +117,11 @@ entries-back es n e =
     }
 
 argument-ok : (k : Kind) (t : List Sign) (a : Argument) → argumentBy k t ≡ some a → cleanText t ≡ true → ArgumentOk k a
-argument-ok Mere t a h c = let z : _≡_ {A = ℕ} 0 1 = cc in absurd (omega arith)
-argument-ok Keep t a h c =
-    let s = cond-some (isKeep (raws t)) (some (number (raws t))) a h in
-    let z : a ≡ number (raws t) = cc (s .1) in
-    rw z (keep-back (raws t) (s .0))
-argument-ok Level t a h c =
-    let s = cond-some (isLevel (raws t)) (some (number (raws t))) a h in
-    let z : a ≡ number (raws t) = cc (s .1) in
-    rw z (level-back (raws t) (s .0))
-argument-ok Place t a h c =
-    let s = cond-some (isPlace t) (some (text (stands t))) a h in
-    let z : a ≡ text (stands t) = cc (s .1) in
-    rw z
-    (place-back (stands t) (stands-some t (not-true (isNil t) (and-l (not (isNil t)) (allOf cleanSign t) c)) (s .0)) (stands-clean t (and-r (not (isNil t)) (allOf cleanSign t) c)))
-argument-ok Entries t a h c =
-    let g = given-some (entriesOf t) (λ es. some (items es)) a h in
-    let z : a ≡ items (g .what) = cc (g .gives) in
-    let o = entries-ok t (g .what) (g .is) (and-r (not (isNil t)) (allOf cleanSign t) c) in
-    rw z (entries-back (g .what) (o .0) (o .1))
+argument-ok k t a h c =
+    let some′ = not-true (isNil t) (and-l (not (isNil t)) (allOf cleanSign t) c) in
+    let clean = and-r (not (isNil t)) (allOf cleanSign t) c in
+    argument-from ArgumentOk t (keep-back (raws t)) (level-back (raws t)) (λ e. place-back (stands t) (stands-some t some′ e) (stands-clean t clean))
+    (λ es e. let o = entries-ok t es e clean in entries-back es (o .0) (o .1)) k a h
 
 argument-back : (help : Bool) (seen : List Bool) (count n : ℕ) (t : List Sign) (a : Argument) → argumentBy (kindOf n) t ≡ some a → cleanText t ≡ true
     → Again (Waits n) help seen count (argument n a)

@@ -15,9 +15,10 @@ use Rattle.text.specs.Decimal.{isDecimal}
 use Rattle.text.specs.Lists.{allOf, anyOf, between, each, isNil, parts, runLen}
 use Rattle.canonical.proofs.Lexing.{okBare}
 use Rattle.canonical.proofs.Values.{WordByte, letter-byte, digit-byte, byte-ok}
-use Rattle.text.proofs.Basics.{and-l, and-r, and-in, no-case, same-eq, parts-between, or-case, all-mono, cond-some, all-none, all-between, or-in-l}
+use Rattle.text.proofs.Basics.{and-l, and-r, and-in, no-case, same-eq, parts-between, or-case, all-mono, all-none, all-between, or-in-l}
 use Rattle.words.specs.Words.{sessionName}
 use Rattle.forms.proofs.TargetBytes.{isSegmentByte, segment-bytes, starred-bytes, nil-segment, nil-starred}
+use Rattle.forms.proofs.FormCases.{target-from}
 
 -- ---- bytes of segments: bare, no `=`, no `-`; and no separator
 
@@ -103,13 +104,6 @@ path-made false ((b ∷ s) ∷ ss) e h =
       isSome = refl;
     }
 
-segments-made : (r : Bool) (t : List ℕ) (g : Target) → segmentsOf r t ≡ some g → (ss : List (List ℕ)) × (g ≡ path r ss) × PathOk r ss
-unfolding segmentsOf
-segments-made r t g h =
-    let p = parts isSeparator t in
-    let c = cond-some (areSegments p && leb (length p) 16) (some (path r p)) g h in
-    (p, cc (c .1), path-made r p (and-l (areSegments p) (leb (length p) 16) (c .0)) (and-r (areSegments p) (leb (length p) 16) (c .0)))
-
 -- what is known of a target that was read
 pub record TargetOk (g : Target) : Type 0 where
   pub again : targetOf (writeTarget g) ≡ some g
@@ -135,24 +129,11 @@ root-ok : PathOk true []
 unfolding pathOf between allOf
 root-ok = record { again = refl; bytesOk = refl; isSome = refl }
 
-path-ok : (t : List ℕ) (g : Target) → pathOf t ≡ some g → TargetOk g
-unfolding pathOf
-path-ok [] g h = let z : _≡_ {A = ℕ} 0 1 = cc in absurd (omega arith)
-path-ok (b ∷ s) g h = go (isSeparator b) (isNil s) refl refl
-  where
-    go : (x y : Bool) → isSeparator b ≡ x → isNil s ≡ y → TargetOk g
-    go true true p q = let z : g ≡ path true [] = cc (rw (p, q) at h) in rw z (path-target true [] root-ok)
-    go true false p q = let m = segments-made true s g (rw (p, q) at h) in rw (m .1) (path-target true (m .0) (m .2))
-    go false y p q = let m = segments-made false (b ∷ s) g (rw p at h) in rw (m .1) (path-target false (m .0) (m .2))
-
 session-ok : TargetOk session
 unfolding targetOf sameBytes bytes sessionName allOf
 session-ok = record { again = refl; bytesOk = refl; isSome = refl }
 
 pub target-ok : (t : List ℕ) (g : Target) → targetOf t ≡ some g → TargetOk g
-unfolding targetOf
-target-ok t g h = go (sameBytes t sessionName) refl
-  where
-    go : (x : Bool) → sameBytes t sessionName ≡ x → TargetOk g
-    go true p = let z : g ≡ session = cc (rw p at h) in rw z session-ok
-    go false p = path-ok t g (rw p at h)
+target-ok =
+    target-from (λ t g. TargetOk g) (λ t e. session-ok) (λ b e. path-target true [] root-ok)
+    (λ b s e h l. path-target true (parts isSeparator s) (path-made true (parts isSeparator s) h l)) (λ s h l. path-target false (parts isSeparator s) (path-made false (parts isSeparator s) h l))

@@ -6,29 +6,29 @@ use mathlib.Core.List.{List, [], _∷_, _++_, map}
 use mathlib.Core.Bool.{Bool, true, false, cond, not, _&&_, _||_}
 use mathlib.Core.Option.{some}
 use native.Mathlib.Omega.{arith}
-use lib.ListN.{length, take, getD}
-use lib.Dec.{eqb, leb}
+use lib.ListN.{take, getD}
+use lib.Dec.{eqb}
 use borrow.Author.Tests.{eqb-true}
 use Rattle.text.specs.Bytes.{bytes, oneOf, sameBytes}
 use Rattle.text.specs.Lists.{anyOf, onto, parts, each, between, isNil}
-use Rattle.text.proofs.Basics.{or-case, no-case, none-some, same-some, same-eq, given-some, cond-some, parts-some}
+use Rattle.text.proofs.Basics.{or-case, no-case, same-eq, parts-some}
 use Rattle.terms.specs.declared.Mode.the-variants.{Out, OutGrave}
 use Rattle.terms.specs.Signs.{bare, escaped, twelve, after, gives, signs, raw, raws, stands, meant, bares}
 use Rattle.terms.proofs.TermLaws.{raws-signs, raws-bares}
 use Rattle.words.specs.declared.Kind.{Kind}
-use Rattle.words.specs.declared.Kind.the-variants.{Mere, Keep, Level, Place, Entries}
 use Rattle.words.specs.Words.{verbName, optionName, kindOf, sessionName}
-use Rattle.forms.specs.Forms.{starts, isKeep, isLevel, isMark, isPlace, entriesOf, Property, propertyOf, topicOf}
-use Rattle.forms.specs.Targets.{isSeparator, areSegments, Target, session, path, segmentsOf, pathOf, targetOf}
+use Rattle.forms.specs.Forms.{starts, isMark, isPlace, Property, propertyOf, topicOf}
+use Rattle.forms.specs.Targets.{isSeparator, Target, targetOf}
 use Rattle.reading.specs.declared.State.{State}
-use Rattle.reading.specs.Command.{Argument, number, text, items, argumentBy, Item}
+use Rattle.reading.specs.Command.{Argument, argumentBy, Item}
 use Rattle.reading.specs.Reading.{takes, decide}
 use Rattle.reading.specs.Cursor.{shownOf}
-use Rattle.canonical.specs.Canonical.{writeProperty, escapes, writeMore, writePlace, writeArgument, lead, writeTarget, writeItem}
+use Rattle.canonical.specs.Canonical.{writeProperty, escapes, writeMore, writePlace, writeArgument, writeTarget, writeItem}
 use Rattle.canonical.specs.Written.{graved, gravedAll, textsIn, leadsDash, dashGrave, placeIn, slash, slashed, argumentIn, written}
 use Rattle.canonical.proofs.TextWriting.{entries-written, topic-written, property-written}
 use Rattle.text.proofs.Classes.{other-byte}
-use Rattle.reading.proofs.TakenCases.{taken-case}
+use Rattle.reading.proofs.TakenCases.{taken-case, argument-from}
+use Rattle.forms.proofs.FormCases.{target-from}
 
 -- ---- a target: `/` for each separator
 
@@ -45,43 +45,19 @@ slash-parts (b ∷ s) = go (eqb b 47) (eqb b 92) refl refl (parts isSeparator s)
     go false true p q (w ∷ ps) n e = simp (p, q) (ap (λ (z : List ℕ). 47 ∷ z) e)
     go false false p q (w ∷ ps) n e = simp (p, q) (ap (λ (z : List ℕ). b ∷ z) e)
 
-segments-written : (rooted : Bool) (s : List ℕ) (g : Target) → segmentsOf rooted s ≡ some g → writeTarget g ≡ lead rooted ++ slashed s
-unfolding segmentsOf
-segments-written rooted s g h =
-    let c = cond-some (areSegments (parts isSeparator s) && leb (length (parts isSeparator s)) 16) (some (path rooted (parts isSeparator s))) g h in
-    let z : g ≡ path rooted (parts isSeparator s) = sym (same-some _ g (c .1)) in
-    rw z (ap (λ (y : List ℕ). lead rooted ++ y) (slash-parts s))
-
 separator-slash : (b : ℕ) → isSeparator b ≡ true → slash b ≡ 47
 unfolding slash
 separator-slash b h = or-case (eqb b 47) (eqb b 92) h (λ e. let z = eqb-true b 47 e in rw z) (λ e. rw e)
-
-path-written : (s : List ℕ) (g : Target) → pathOf s ≡ some g → writeTarget g ≡ slashed s
-unfolding pathOf slashed
-path-written [] g h = none-some g h
-path-written (b ∷ s) g h = go (isSeparator b) refl
-  where
-    inner : (s : List ℕ) → isSeparator b ≡ true → cond (isNil s) (some (path true [])) (segmentsOf true s) ≡ some g → writeTarget g ≡ slash b ∷ map slash s
-    inner [] e k = let z : g ≡ path true [] = sym (same-some _ g k) in rw (z, separator-slash b e) (unfold between in refl)
-    inner (c ∷ s) e k = segments-written true (c ∷ s) g k ∙ ap (λ (y : ℕ). y ∷ map slash (c ∷ s)) (sym (separator-slash b e))
-
-    go : (x : Bool) → isSeparator b ≡ x → writeTarget g ≡ map slash (b ∷ s)
-    go true e = inner s e (rw e at h)
-    go false e = segments-written false (b ∷ s) g (rw e at h)
 
 session-slashed : slashed sessionName ≡ sessionName
 unfolding slashed slash sessionName bytes
 session-slashed = refl
 
 pub target-written : (s : List ℕ) (g : Target) → targetOf s ≡ some g → writeTarget g ≡ slashed s
-unfolding targetOf
-target-written s g h = go (sameBytes s sessionName) refl
-  where
-    go : (x : Bool) → sameBytes s sessionName ≡ x → writeTarget g ≡ slashed s
-    go true e =
-        let z : g ≡ session = sym (same-some _ g (rw e at h)) in
-        rw z (sym (ap slashed (same-eq s sessionName e) ∙ session-slashed))
-    go false e = path-written s g (rw e at h)
+unfolding slashed between
+target-written =
+    target-from (λ s g. writeTarget g ≡ slashed s) (λ s e. sym (ap slashed (same-eq s sessionName e) ∙ session-slashed)) (λ b e. ap (λ (y : ℕ). y ∷ []) (sym (separator-slash b e)))
+    (λ b s e h l. ap (λ (y : List ℕ). 47 ∷ y) (slash-parts s) ∙ ap (λ (y : ℕ). y ∷ map slash s) (sym (separator-slash b e))) (λ s h l. slash-parts s)
 
 -- ---- a source or destination
 
@@ -157,23 +133,10 @@ raw-written : (s : List ℕ) → raws (bares (raws (signs Out s))) ≡ s
 raw-written s = raws-bares (raws (signs Out s)) ∙ raws-signs s
 
 argument-written : (k : Kind) (s : List ℕ) (a : Argument) → starts 45 (signs Out s) ≡ false → argumentBy k (signs Out s) ≡ some a → raws (writeArgument a) ≡ argumentIn k s
-argument-written Mere s a d h = none-some a h
-argument-written Keep s a d h =
-    let c = cond-some (isKeep (raws (signs Out s))) (some (number (raws (signs Out s)))) a h in
-    let z : a ≡ number (raws (signs Out s)) = sym (same-some _ a (c .1)) in
-    rw z (raw-written s)
-argument-written Level s a d h =
-    let c = cond-some (isLevel (raws (signs Out s))) (some (number (raws (signs Out s)))) a h in
-    let z : a ≡ number (raws (signs Out s)) = sym (same-some _ a (c .1)) in
-    rw z (raw-written s)
-argument-written Place s a d h =
-    let c = cond-some (isPlace (signs Out s)) (some (text (stands (signs Out s)))) a h in
-    let z : a ≡ text (stands (signs Out s)) = sym (same-some _ a (c .1)) in
-    rw z (place-written s (c .0) d)
-argument-written Entries s a d h =
-    let g = given-some (entriesOf (signs Out s)) (λ es. some (items es)) a h in
-    let z : a ≡ items (g .what) = sym (same-some _ a (g .gives)) in
-    rw z (unfold textsIn in ap raws (sym (entries-written (signs Out s) (g .what) (g .is))))
+unfolding textsIn
+argument-written k s a d h =
+    argument-from (λ j b. raws (writeArgument b) ≡ argumentIn j s) (signs Out s) (λ e. raw-written s) (λ e. raw-written s) (λ e. place-written s e d)
+    (λ es e. ap raws (sym (entries-written (signs Out s) es e))) k a h
 
 property-part : (help : Bool) (s : List ℕ) (p : Property) → cond help (topicOf (signs Out s)) (propertyOf (signs Out s)) ≡ some p → raws (writeProperty p) ≡ textsIn s
 unfolding textsIn

@@ -4,16 +4,16 @@ use Prim.Native.Nat.{ℕ}
 use mathlib.Core.Path.{_≡_, refl, sym, ap, _∙_}
 use mathlib.Core.List.{List, [], _∷_, _++_, map, append-assoc, append-nil}
 use mathlib.Core.Bool.{Bool, true, false, cond, not, _&&_}
-use mathlib.Core.Option.{none, some}
+use mathlib.Core.Option.{some}
 use native.Mathlib.Omega.{arith}
 use lib.ListN.{length, drop}
 use lib.Dec.{eqb, leb}
 use borrow.Author.Tests.{ne-eqb, not-true}
 use Rattle.text.specs.Bytes.{bytes, oneOf, isWord}
 use Rattle.text.specs.Lists.{allOf, anyOf, upTo, past, onto, each, between, isNil, given, every}
-use Rattle.text.proofs.Basics.{and-l, and-r, or-l, or-r, no-case, same-some, given-some, cond-some, parts-some, between-parts, all-none, nil-is}
+use Rattle.text.proofs.Basics.{and-l, and-r, or-l, or-r, no-case, same-some, given-some, parts-some, between-parts, all-none, nil-is}
 use Rattle.terms.specs.Signs.{Sign, bare, escaped, quote, quoted, quotedEscaped, raws, stands, isBare, bares}
-use Rattle.forms.specs.Forms.{starts, hasEq, isName, isPlainSign, endsQuote, isText, Value, one, many, itemsIn, isList, listOf, textOf, valueOf, Entry, entry, entryOf, entryParts, entriesOf, Said, alone, equals, matches, saidOf, Property, property, propertyOf, topicOf}
+use Rattle.forms.specs.Forms.{starts, hasEq, isName, isPlainSign, endsQuote, isText, Value, many, itemsIn, isList, valueOf, Entry, entryOf, entryParts, entriesOf, Said, saidOf, Property, propertyOf, topicOf}
 use Rattle.canonical.specs.Canonical.{writeText, writeTexts, writeValue, writeOptional, writeEntry, writeSaid, writeProperty}
 use Rattle.canonical.specs.Written.{parting, textSigns, rewriteFrom, rewritten}
 use Rattle.canonical.proofs.Values.{word-byte}
@@ -21,6 +21,7 @@ use Rattle.terms.proofs.TermLaws.{bare-is, bare-split}
 use Rattle.forms.proofs.PropertyLaws.{name-words}
 use Rattle.forms.proofs.EntryLaws.{entry-parts-some}
 use Rattle.text.proofs.Classes.{other-byte}
+use Rattle.forms.proofs.FormCases.{value-from, entry-from, said-from, topic-from, property-from}
 
 -- ---- rewriting: a text that nothing parts, and what parts it from the next
 
@@ -164,23 +165,13 @@ list-writes t r h =
         ∙ sym (append-assoc done (bare 41 ∷ []) (rewritten r))
 
 value-writes : (t r : List Sign) (v : Value) → valueOf t ≡ some v → ends r ≡ true → rewritten (t ++ r) ≡ writeValue v ++ rewritten r
-unfolding valueOf listOf textOf writeValue
-value-writes t r v h p = go t (starts 40 t) refl h
+unfolding writeValue
+value-writes t r v h p = value-from (λ w. rewritten (t ++ r) ≡ writeValue w ++ rewritten r) t (λ e l. list t e l) (λ e l. text-writes t r l p) v h
   where
-    list : (t : List Sign) → listOf t ≡ some v → rewritten (bare 40 ∷ (t ++ r)) ≡ writeValue v ++ rewritten r
-    list t h =
-        let c = cond-some (isList t) (some (many (map stands (itemsIn t)))) v h in
-        let z : v ≡ many (map stands (itemsIn t)) = sym (same-some _ v (c .1)) in
-        rw z (parted (bare 40) (t ++ r) open-parts ∙ ap (λ (w : List Sign). bare 40 ∷ w) (list-writes t r (c .0)))
-
-    go : (t : List Sign) (b : Bool) → starts 40 t ≡ b → cond (starts 40 t) (listOf (drop 1 t)) (textOf t) ≡ some v
-        → rewritten (t ++ r) ≡ writeValue v ++ rewritten r
-    go t false e h =
-        let c = cond-some (isText t) (some (one (stands t))) v (rw e at h) in
-        let z : v ≡ one (stands t) = sym (same-some _ v (c .1)) in
-        rw z (text-writes t r (c .0) p)
-    go [] true e h = cc
-    go (x ∷ t) true e h = ap (λ (y : Sign). rewritten (y ∷ (t ++ r))) (bare-is 40 x e) ∙ list t (rw e at h)
+    list : (t : List Sign) → starts 40 t ≡ true → isList (drop 1 t) ≡ true → rewritten (t ++ r) ≡ writeValue (many (map stands (itemsIn (drop 1 t)))) ++ rewritten r
+    list [] e l = cc
+    list (x ∷ t) e l =
+        ap (λ (y : Sign). rewritten (y ∷ (t ++ r))) (bare-is 40 x e) ∙ parted (bare 40) (t ++ r) open-parts ∙ ap (λ (w : List Sign). bare 40 ∷ w) (list-writes t r l)
 
 -- ---- names: raw bytes that are letters, digits and underscores stand for themselves
 
@@ -223,28 +214,20 @@ unfolding rewritten rewriteFrom textSigns
 optional-nil = refl
 
 entry-writes : (t r : List Sign) (e : Entry) → entryOf t ≡ some e → ends r ≡ true → rewritten (t ++ r) ≡ writeEntry e ++ rewritten r
-unfolding entryOf writeEntry
-entry-writes t r e h p = go (hasEq t) refl
+unfolding writeEntry
+entry-writes t r e h p =
+    entry-from (λ x. rewritten (t ++ r) ≡ (bares (x .name) ++ writeOptional (x .value)) ++ rewritten r) t
+    (λ q n. name-writes t r n p ∙ ap (λ (y : List Sign). y ++ rewritten r) (sym (append-nil (bares (raws t))))) with-value e h
   where
-    n : List ℕ
-    n = raws (upTo (isBare 61) t)
-
-    go : (b : Bool) → hasEq t ≡ b → rewritten (t ++ r) ≡ (bares (e .name) ++ writeOptional (e .value)) ++ rewritten r
-    go true q =
-        let c = cond-some (isName n) (given (valueOf (past (isBare 61) t)) (λ v. some (entry n (some v)))) e (rw q at h) in
-        let g = given-some (valueOf (past (isBare 61) t)) (λ v. some (entry n (some v))) e (c .1) in
-        let z : e ≡ entry n (some (g .what)) = sym (same-some _ e (g .gives)) in
-        rw z
-        (ap (λ (y : List Sign). rewritten (y ++ r)) (bare-split 61 t q)
+    with-value : (v : Value) → hasEq t ≡ true → isName (raws (upTo (isBare 61) t)) ≡ true → valueOf (past (isBare 61) t) ≡ some v
+        → rewritten (t ++ r) ≡ (bares (raws (upTo (isBare 61) t)) ++ (bare 61 ∷ writeValue v)) ++ rewritten r
+    with-value v q n k =
+        ap (λ (y : List Sign). rewritten (y ++ r)) (bare-split 61 t q)
         ∙ ap rewritten (append-assoc (upTo (isBare 61) t) (bare 61 ∷ past (isBare 61) t) r)
-        ∙ name-writes (upTo (isBare 61) t) (bare 61 ∷ (past (isBare 61) t ++ r)) (c .0) equal-parts
-        ∙ ap (λ (y : List Sign). bares n ++ y) (parted (bare 61) (past (isBare 61) t ++ r) equal-parts
-        ∙ ap (λ (y : List Sign). bare 61 ∷ y) (value-writes (past (isBare 61) t) r (g .what) (g .is) p))
-        ∙ sym (append-assoc (bares n) (bare 61 ∷ writeValue (g .what)) (rewritten r)))
-    go false q =
-        let c = cond-some (isName (raws t)) (some (entry (raws t) none)) e (rw q at h) in
-        let z : e ≡ entry (raws t) none = sym (same-some _ e (c .1)) in
-        rw z (name-writes t r (c .0) p ∙ ap (λ (y : List Sign). y ++ rewritten r) (sym (append-nil (bares (raws t)))))
+        ∙ name-writes (upTo (isBare 61) t) (bare 61 ∷ (past (isBare 61) t ++ r)) n equal-parts
+        ∙ ap (λ (y : List Sign). bares (raws (upTo (isBare 61) t)) ++ y) (parted (bare 61) (past (isBare 61) t ++ r) equal-parts
+        ∙ ap (λ (y : List Sign). bare 61 ∷ y) (value-writes (past (isBare 61) t) r v k p))
+        ∙ sym (append-assoc (bares (raws (upTo (isBare 61) t))) (bare 61 ∷ writeValue v) (rewritten r))
 
 entries-write : (a : List Sign) (ws : List (List Sign)) (e : Entry) (es : List Entry) → entryOf a ≡ some e → every (map entryOf ws) ≡ some es
     → rewritten (a ++ each (bare 44) ws) ≡ writeEntry e ++ each (bare 44) (map writeEntry es)
@@ -296,54 +279,27 @@ entries-written t es h = go (entryParts false t) (entry-parts-some false t) (ent
 -- ---- properties
 
 said-writes : (t : List Sign) (s : Said) → saidOf t ≡ some s → bare 61 ∷ rewritten t ≡ writeSaid s
-unfolding saidOf
-said-writes t s h = go t (starts 61 t) refl h
+said-writes t s h = said-from (λ x. bare 61 ∷ rewritten t ≡ writeSaid x) t (λ v e k. two t v e k) (λ v e k. ap (λ (y : List Sign). bare 61 ∷ y) (whole t v k)) s h
   where
     whole : (t : List Sign) (v : Value) → valueOf t ≡ some v → rewritten t ≡ writeValue v
     whole t v e = ap rewritten (sym (append-nil t)) ∙ value-writes t [] v e refl ∙ ap (λ (y : List Sign). writeValue v ++ y) optional-nil ∙ append-nil (writeValue v)
 
-    go : (t : List Sign) (b : Bool) → starts 61 t ≡ b
-        → cond (starts 61 t) (given (valueOf (drop 1 t)) (λ v. some (matches v))) (given (valueOf t) (λ v. some (equals v))) ≡ some s
-        → bare 61 ∷ rewritten t ≡ writeSaid s
-    go t false e k =
-        let g = given-some (valueOf t) (λ v. some (equals v)) s (rw e at k) in
-        let z : s ≡ equals (g .what) = sym (same-some _ s (g .gives)) in
-        rw z (ap (λ (y : List Sign). bare 61 ∷ y) (whole t (g .what) (g .is)))
-    go [] true e k = cc
-    go (x ∷ t) true e k =
-        let g = given-some (valueOf t) (λ v. some (matches v)) s (rw e at k) in
-        let z : s ≡ matches (g .what) = sym (same-some _ s (g .gives)) in
-        rw z
-        (ap (λ (y : List Sign). bare 61 ∷ y) (ap (λ (y : Sign). rewritten (y ∷ t)) (bare-is 61 x e) ∙ parted (bare 61) t equal-parts
-        ∙ ap (λ (y : List Sign). bare 61 ∷ y) (whole t (g .what) (g .is))))
+    two : (t : List Sign) (v : Value) → starts 61 t ≡ true → valueOf (drop 1 t) ≡ some v → bare 61 ∷ rewritten t ≡ bare 61 ∷ bare 61 ∷ writeValue v
+    two [] v e k = cc
+    two (x ∷ t) v e k =
+        ap (λ (y : List Sign). bare 61 ∷ y) (ap (λ (y : Sign). rewritten (y ∷ t)) (bare-is 61 x e) ∙ parted (bare 61) t equal-parts ∙ ap (λ (y : List Sign). bare 61 ∷ y) (whole t v k))
 
 name-written : (t : List Sign) → isName (raws t) ≡ true → rewritten t ≡ bares (raws t) ++ []
 name-written t n = ap rewritten (sym (append-nil t)) ∙ name-writes t [] n refl ∙ ap (λ (y : List Sign). bares (raws t) ++ y) optional-nil
 
 pub topic-written : (t : List Sign) (p : Property) → topicOf t ≡ some p → rewritten t ≡ writeProperty p
-unfolding topicOf writeProperty
-topic-written t p h =
-    let c = cond-some (isName (raws t)) (some (property (raws t) alone)) p h in
-    let z : p ≡ property (raws t) alone = sym (same-some _ p (c .1)) in
-    rw z (name-written t (c .0))
+unfolding writeProperty
+topic-written t p h = topic-from (λ q. rewritten t ≡ bares (q .name) ++ writeSaid (q .said)) t (name-written t) p h
 
 pub property-written : (t : List Sign) (p : Property) → propertyOf t ≡ some p → rewritten t ≡ writeProperty p
-unfolding propertyOf writeProperty
-property-written t p h = go (hasEq t) refl
-  where
-    n : List ℕ
-    n = raws (upTo (isBare 61) t)
-
-    go : (b : Bool) → hasEq t ≡ b → rewritten t ≡ bares (p .name) ++ writeSaid (p .said)
-    go true q =
-        let c = cond-some (isName n) (given (saidOf (past (isBare 61) t)) (λ s. some (property n s))) p (rw q at h) in
-        let g = given-some (saidOf (past (isBare 61) t)) (λ s. some (property n s)) p (c .1) in
-        let z : p ≡ property n (g .what) = sym (same-some _ p (g .gives)) in
-        rw z
-        (ap rewritten (bare-split 61 t q)
-        ∙ name-writes (upTo (isBare 61) t) (bare 61 ∷ past (isBare 61) t) (c .0) equal-parts
-        ∙ ap (λ (y : List Sign). bares n ++ y) (parted (bare 61) (past (isBare 61) t) equal-parts ∙ said-writes (past (isBare 61) t) (g .what) (g .is)))
-    go false q =
-        let c = cond-some (isName (raws t)) (some (property (raws t) alone)) p (rw q at h) in
-        let z : p ≡ property (raws t) alone = sym (same-some _ p (c .1)) in
-        rw z (name-written t (c .0))
+unfolding writeProperty
+property-written t p h =
+    property-from (λ q. rewritten t ≡ bares (q .name) ++ writeSaid (q .said)) t (λ q n. name-written t n)
+    (λ s q n k. ap rewritten (bare-split 61 t q)
+    ∙ name-writes (upTo (isBare 61) t) (bare 61 ∷ past (isBare 61) t) n equal-parts
+    ∙ ap (λ (y : List Sign). bares (raws (upTo (isBare 61) t)) ++ y) (parted (bare 61) (past (isBare 61) t) equal-parts ∙ said-writes (past (isBare 61) t) s k)) p h

@@ -13,12 +13,14 @@ use Rattle.forms.specs.Forms.{Value, endsQuote, isList, isPlainSign, isText, it
 use Rattle.terms.specs.Signs.{Sign, bare, isBare, quote, stands, standsFor, two, bares}
 use Rattle.text.specs.Bytes.{bytes, isDigit, isLetter, isWord, oneOf, printable}
 use Rattle.text.specs.Lists.{allOf, anyOf, between, each, isNil, parts, past, upTo}
-use Rattle.text.proofs.Basics.{and-l, and-r, or-l, no-case, all-append, all-up, parts-all, parts-between, up-at, past-at, any-at, or-case, all-mono, any-between, parts-some, map-some, all-drop}
+use Rattle.text.proofs.Basics.{and-l, and-r, or-l, no-case, all-append, all-up, parts-all, parts-between, up-at, past-at, any-at, or-case, all-mono, any-between, map-some, all-drop}
 use Rattle.canonical.proofs.Lexing.{okBare, okSign, good}
 use Rattle.canonical.proofs.Frame.{cleanSign}
 use Rattle.text.proofs.Classes.{within-low, within-high}
 use Rattle.terms.specs.RowWords.{turns}
 use Rattle.terms.proofs.TermLaws.{stands-bares, none-bares}
+use Rattle.forms.proofs.FormCases.{value-from}
+use Rattle.forms.proofs.TextLaws.{items-some}
 
 -- ---- classes of bytes
 
@@ -303,36 +305,16 @@ stands-all [] e = refl
 stands-all (t ∷ ts) e =
     simp (stands-clean t (and-l (allOf cleanSign t) (allOf (allOf cleanSign) ts) e), stands-all ts (and-r (allOf cleanSign t) (allOf (allOf cleanSign) ts) e))
 
-list-ok : (t : List Sign) (v : Value) → listOf t ≡ some v → allOf cleanSign t ≡ true → okValue v ≡ true
-unfolding listOf isList okValue
-list-ok t v h e = go (isList t) refl
-  where
-    its : List (List Sign)
-    its = itemsIn t
-
-    go : (x : Bool) → isList t ≡ x → okValue v ≡ true
-    go true p =
-        let z : v ≡ many (map stands (itemsIn t)) = cc (rw p at h) in
-        let q = and-r (isNil (past (isBare 41) t)) (allOf isText (itemsIn t) && leb (length (itemsIn t)) 16) (and-r (anyOf (isBare 41) t) (isNil (past (isBare 41) t) && (allOf isText (itemsIn t) && leb (length (itemsIn t)) 16)) p) in
-        let r = and-r (allOf isText (itemsIn t)) (leb (length (itemsIn t)) 16) q in
-        let s = map-some stands (itemsIn t) (unfold itemsIn in parts-some (isBare 44) (upTo (isBare 41) t)) in
-        let l : length (map stands (itemsIn t)) ≡ length (itemsIn t) = length-map (itemsIn t) stands in
-        let a = stands-all (itemsIn t) (unfold itemsIn in parts-all cleanSign (isBare 44) (upTo (isBare 41) t) (all-up cleanSign (isBare 41) t e)) in
-        rw z (simp (s, l, r, a))
-    go false p = let z : _≡_ {A = ℕ} 0 1 = cc (rw p at h) in absurd (omega arith)
-
-text-ok : (t : List Sign) (v : Value) → textOf t ≡ some v → allOf cleanSign t ≡ true → okValue v ≡ true
-unfolding textOf okValue
-text-ok t v h e = go (isText t) refl
-  where
-    go : (x : Bool) → isText t ≡ x → okValue v ≡ true
-    go true p = let z : v ≡ one (stands t) = cc (rw p at h) in rw z (stands-clean t e)
-    go false p = let z : _≡_ {A = ℕ} 0 1 = cc (rw p at h) in absurd (omega arith)
+list-ok : (t : List Sign) → isList t ≡ true → allOf cleanSign t ≡ true → okValue (many (map stands (itemsIn t))) ≡ true
+unfolding isList okValue
+list-ok t p e =
+    let q = and-r (isNil (past (isBare 41) t)) (allOf isText (itemsIn t) && leb (length (itemsIn t)) 16) (and-r (anyOf (isBare 41) t) (isNil (past (isBare 41) t) && (allOf isText (itemsIn t) && leb (length (itemsIn t)) 16)) p) in
+    let r = and-r (allOf isText (itemsIn t)) (leb (length (itemsIn t)) 16) q in
+    let s = map-some stands (itemsIn t) (items-some t) in
+    let l : length (map stands (itemsIn t)) ≡ length (itemsIn t) = length-map (itemsIn t) stands in
+    let a = stands-all (itemsIn t) (unfold itemsIn in parts-all cleanSign (isBare 44) (upTo (isBare 41) t) (all-up cleanSign (isBare 41) t e)) in
+    simp (s, l, r, a)
 
 pub value-ok : (t : List Sign) (v : Value) → valueOf t ≡ some v → allOf cleanSign t ≡ true → okValue v ≡ true
-unfolding valueOf
-value-ok t v h e = go (starts 40 t) refl
-  where
-    go : (x : Bool) → starts 40 t ≡ x → okValue v ≡ true
-    go true p = list-ok (drop 1 t) v (rw p at h) (all-drop cleanSign 1 t e)
-    go false p = text-ok t v (rw p at h) e
+unfolding okValue
+value-ok t v h e = value-from (λ w. okValue w ≡ true) t (λ p l. list-ok (drop 1 t) l (all-drop cleanSign 1 t e)) (λ p l. stands-clean t e) v h

@@ -1,3 +1,4 @@
+pub mod FormCases
 pub mod Lists
 pub mod SegmentLaws
 pub mod TextLaws

@@ -26,6 +26,7 @@ use Rattle.forms.specs.Forms.{starts, isName, hasEq, Value, valueOf, Sai
 use Rattle.forms.specs.Answers.{isSome, operatorOf, shapeOf, textIn, propertyIn, topicIn, isValueIn}
 use Rattle.forms.specs.Steps.{nameLen, equalAt, shapeIf, isEntryIn}
 use Rattle.forms.proofs.ValueLaws.{starts-byte, value-part, first-taken}
+use Rattle.forms.proofs.FormCases.{namedOf, as-property, as-entry}
 
 -- ---- names
 
@@ -156,22 +157,19 @@ cut-at t k h = split-at t k 0 h ∙ ap (λ (j : ℕ). take k t ++ (getD t k 0 �
 -- ---- a name, and what may follow it after `=`: properties, and the items of display and output, are both of this form
 
 module _ {A B : Type 0} (rest : List Sign → Option B) (mere : List ℕ → A) (with : List ℕ → B → A) where
-  unfoldable namedOf : List Sign → Option A
-  namedOf t =
-      let n = raws (upTo (isBare 61) t) in
-      let withRest = cond (isName n) (given (rest (past (isBare 61) t)) (λ b. some (with n b))) none in
-      cond (hasEq t) withRest (cond (isName (raws t)) (some (mere (raws t))) none)
+  abbrev reads : List Sign → Option A
+  reads t = namedOf rest mere with t
 
   -- n is the run of letters, digits and underscores that a text begins with: all of it, before `=`, before anything else
-  named-alone : (n : List ℕ) → allOf isWord n ≡ true → namedOf (signs Out n) ≡ cond (isName n) (some (mere n)) none
+  named-alone : (n : List ℕ) → allOf isWord n ≡ true → reads (signs Out n) ≡ cond (isName n) (some (mere n)) none
   unfolding namedOf
-  named-alone n e = ap namedOf (words-alone n e) ∙ simp (none-bare n e, raws-bares n)
+  named-alone n e = ap reads (words-alone n e) ∙ simp (none-bare n e, raws-bares n)
 
-  named-equal : (n v : List ℕ) → allOf isWord n ≡ true → namedOf (signs Out (n ++ (61 ∷ v))) ≡ cond (isName n) (given (rest (signs Out v)) (λ b. some (with n b))) none
+  named-equal : (n v : List ℕ) → allOf isWord n ≡ true → reads (signs Out (n ++ (61 ∷ v))) ≡ cond (isName n) (given (rest (signs Out v)) (λ b. some (with n b))) none
   unfolding namedOf
   named-equal n v e =
       let w = none-bare n e in
-      ap namedOf (words-read n (61 ∷ v) e ∙ ap (λ z. bares n ++ z) (bare-signs 61 v refl refl))
+      ap reads (words-read n (61 ∷ v) e ∙ ap (λ z. bares n ++ z) (bare-signs 61 v refl refl))
       ∙ simp (
         any-at (isBare 61) (bares n) (bare 61) (signs Out v) refl,
         up-at (isBare 61) (bares n) (bare 61) (signs Out v) w refl,
@@ -179,7 +177,7 @@ module _ {A B : Type 0} (rest : List Sign → Option B) (mere : List ℕ → A) 
         raws-bares n,
       )
 
-  named-other : (n : List ℕ) (c : ℕ) (v : List ℕ) → allOf isWord n ≡ true → isWord c ≡ false → (c ≡ 61 → ⊥) → namedOf (signs Out (n ++ (c ∷ v))) ≡ none
+  named-other : (n : List ℕ) (c : ℕ) (v : List ℕ) → allOf isWord n ≡ true → isWord c ≡ false → (c ≡ 61 → ⊥) → reads (signs Out (n ++ (c ∷ v))) ≡ none
   unfolding namedOf
   named-other n c v e w d = go (hasEq (signs Out (n ++ (c ∷ v)))) refl
     where
@@ -194,15 +192,15 @@ module _ {A B : Type 0} (rest : List Sign → Option B) (mere : List ℕ → A) 
           ∙ ap (λ z. z ++ raws (upTo (isBare 61) (signs Out (c ∷ v)))) (raws-bares n)
           ∙ ap (λ z. n ++ z) (first .1)
 
-      go : (x : Bool) → hasEq (signs Out (n ++ (c ∷ v))) ≡ x → namedOf (signs Out (n ++ (c ∷ v))) ≡ none
+      go : (x : Bool) → hasEq (signs Out (n ++ (c ∷ v))) ≡ x → reads (signs Out (n ++ (c ∷ v))) ≡ none
       go true p = rw (p, up, not-name n c (first .0) w)
       go false p = rw (p, raws-signs (n ++ (c ∷ v)), not-name n c v w)
 
   -- the same by places of a text t that no name begins
-  named-none : (t : List ℕ) → nameLen t ≡ 0 → namedOf (signs Out t) ≡ none
+  named-none : (t : List ℕ) → nameLen t ≡ 0 → reads (signs Out t) ≡ none
   named-none t e = go (leb (length t) (runLen isWord t)) (eqb (getD t (runLen isWord t) 0) 61) refl refl
     where
-      go : (x y : Bool) → leb (length t) (runLen isWord t) ≡ x → eqb (getD t (runLen isWord t) 0) 61 ≡ y → namedOf (signs Out t) ≡ none
+      go : (x y : Bool) → leb (length t) (runLen isWord t) ≡ x → eqb (getD t (runLen isWord t) 0) 61 ≡ y → reads (signs Out t) ≡ none
       go true y p q =
           let a : take (runLen isWord t) t ≡ t = take-all (runLen isWord t) t (leb-true (length t) (runLen isWord t) p) in
           named-alone t (ap (allOf isWord) (sym a) ∙ take-run isWord t) ∙ rw (ap isName (sym a) ∙ unnamed t e)
@@ -210,39 +208,31 @@ module _ {A B : Type 0} (rest : List Sign → Option B) (mere : List ℕ → A) 
           let h = leb-false (length t) (runLen isWord t) p in
           let n = take (runLen isWord t) t in
           let v = drop (runLen isWord t + 1) t in
-          ap (λ z. namedOf (signs Out z)) (cut-at t (runLen isWord t) h)
-          ∙ ap (λ (z : ℕ). namedOf (signs Out (n ++ (z ∷ v)))) (eqb-true (getD t (runLen isWord t) 0) 61 q)
+          ap (λ z. reads (signs Out z)) (cut-at t (runLen isWord t) h)
+          ∙ ap (λ (z : ℕ). reads (signs Out (n ++ (z ∷ v)))) (eqb-true (getD t (runLen isWord t) 0) 61 q)
           ∙ named-equal n v (take-run isWord t) ∙ rw (unnamed t e)
       go false false p q =
           let h = leb-false (length t) (runLen isWord t) p in
-          ap (λ z. namedOf (signs Out z)) (cut-at t (runLen isWord t) h)
+          ap (λ z. reads (signs Out z)) (cut-at t (runLen isWord t) h)
           ∙ named-other (take (runLen isWord t) t) (getD t (runLen isWord t) 0) (drop (runLen isWord t + 1) t) (take-run isWord t) (run-fails isWord t 0 h)
           (eqb-false (getD t (runLen isWord t) 0) 61 q)
 
   -- a name of k bytes begins it
   module _ (t : List ℕ) (k : ℕ) (n : Named t k) where
-    named-mere : k ≡ length t → namedOf (signs Out t) ≡ some (mere (take k t))
+    named-mere : k ≡ length t → reads (signs Out t) ≡ some (mere (take k t))
     named-mere h =
         let a : take k t ≡ t = take-all k t (omega arith) in
-        ap (λ z. namedOf (signs Out z)) (sym a) ∙ named-alone (take k t) (n .words) ∙ rw (n .name)
+        ap (λ z. reads (signs Out z)) (sym a) ∙ named-alone (take k t) (n .words) ∙ rw (n .name)
 
-    named-not : k < length t → (getD t k 0 ≡ 61 → ⊥) → namedOf (signs Out t) ≡ none
-    named-not h d = ap (λ z. namedOf (signs Out z)) (cut-at t k h) ∙ named-other (take k t) (getD t k 0) (drop (k + 1) t) (n .words) (n .next h) d
+    named-not : k < length t → (getD t k 0 ≡ 61 → ⊥) → reads (signs Out t) ≡ none
+    named-not h d = ap (λ z. reads (signs Out z)) (cut-at t k h) ∙ named-other (take k t) (getD t k 0) (drop (k + 1) t) (n .words) (n .next h) d
 
-    named-with : k < length t → getD t k 0 ≡ 61 → namedOf (signs Out t) ≡ given (rest (signs Out (drop (k + 1) t))) (λ b. some (with (take k t) b))
+    named-with : k < length t → getD t k 0 ≡ 61 → reads (signs Out t) ≡ given (rest (signs Out (drop (k + 1) t))) (λ b. some (with (take k t) b))
     named-with h d =
-        ap (λ z. namedOf (signs Out z)) (cut-at t k h) ∙ ap (λ (z : ℕ). namedOf (signs Out (take k t ++ (z ∷ drop (k + 1) t)))) d
+        ap (λ z. reads (signs Out z)) (cut-at t k h) ∙ ap (λ (z : ℕ). reads (signs Out (take k t ++ (z ∷ drop (k + 1) t)))) d
         ∙ named-equal (take k t) (drop (k + 1) t) (n .words) ∙ rw (n .name)
 
 -- ---- a property, and an item of display or output, by places of a text t
-
-as-property : (t : List Sign) → propertyOf t ≡ namedOf saidOf (λ n. property n alone) property t
-unfolding propertyOf namedOf
-as-property t = refl
-
-as-entry : (t : List Sign) → entryOf t ≡ namedOf valueOf (λ n. entry n none) (λ n v. entry n (some v)) t
-unfolding entryOf namedOf
-as-entry t = refl
 
 -- no name begins it
 pub unnamed-property : (t : List ℕ) → nameLen t ≡ 0 → propertyOf (signs Out t) ≡ none

@@ -19,6 +19,7 @@ use Rattle.terms.specs.Signs.{Sign, bare, after, gives, signs, bares}
 use Rattle.words.specs.Words.{sessionName}
 use Rattle.forms.specs.Targets.{isSeparator, tagLen, isTagLen, isNumbered, isStarred, isSegment, areSegments, Target, session, path, segmentsOf, pathOf, targetOf}
 use Rattle.terms.proofs.TermLaws.{bares-signs}
+use Rattle.forms.proofs.FormCases.{target-from}
 
 -- the bytes of a segment, and those of a path
 abbrev pub isSegmentByte : ℕ → Bool
@@ -99,30 +100,14 @@ parts-made (b ∷ s) e = go (isSeparator b) refl (parts isSeparator s) (parts-so
           ih (simp (and-r (isSegmentByte b) (allOf isSegmentByte q) l, r)),
         )
 
-segments-path : (rooted : Bool) (s : List ℕ) (x : Target) → segmentsOf rooted s ≡ some x → allOf isPathByte s ≡ true
-unfolding segmentsOf
-segments-path rooted s x e =
-    let p = parts isSeparator s in
-    let q = cond-some (areSegments p && leb (length p) 16) (some (path rooted p)) x e in
-    parts-made s (segments-bytes p (and-l (areSegments p) (leb (length p) 16) (q .0)))
-
-path-bytes : (s : List ℕ) (x : Target) → pathOf s ≡ some x → allOf isPathByte s ≡ true
-unfolding pathOf
-path-bytes [] x e = none-some x e
-path-bytes (b ∷ s) x e = go (isSeparator b) refl (isNil s) refl
-  where
-    go : (y : Bool) → isSeparator b ≡ y → (z : Bool) → isNil s ≡ z → allOf isPathByte (b ∷ s) ≡ true
-    go true p true q = unfold allOf in simp (or-in-r (isSegmentByte b) (isSeparator b) p, nil-is s q)
-    go true p false q = unfold allOf in simp (or-in-r (isSegmentByte b) (isSeparator b) p, segments-path true s x (rw (p, q) at e))
-    go false p z q = segments-path false (b ∷ s) x (rw p at e)
-
 pub target-bytes : (t : List ℕ) (x : Target) → targetOf t ≡ some x → allOf isPathByte t ≡ true
-unfolding targetOf
-target-bytes t x e = go (sameBytes t sessionName) refl
+unfolding allOf
+target-bytes =
+    target-from (λ t x. allOf isPathByte t ≡ true) (λ t e. ap (allOf isPathByte) (same-eq t sessionName e) ∙ unfold allOf sessionName bytes in refl)
+    (λ b e. simp (or-in-r (isSegmentByte b) (isSeparator b) e)) (λ b s e h l. simp (or-in-r (isSegmentByte b) (isSeparator b) e, segments-path s h)) (λ s h l. segments-path s h)
   where
-    go : (y : Bool) → sameBytes t sessionName ≡ y → allOf isPathByte t ≡ true
-    go true p = ap (allOf isPathByte) (same-eq t sessionName p) ∙ unfold allOf sessionName bytes in refl
-    go false p = path-bytes t x (rw p at e)
+    segments-path : (s : List ℕ) → areSegments (parts isSeparator s) ≡ true → allOf isPathByte s ≡ true
+    segments-path s h = parts-made s (segments-bytes (parts isSeparator s) h)
 
 -- the signs of such a text
 pub path-signs : (t : List ℕ) → allOf isPathByte t ≡ true → signs Out t ≡ bares t

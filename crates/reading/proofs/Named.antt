@@ -29,6 +29,7 @@ use Rattle.reading.specs.Inside.{partsInOrder, valueSpan, optionSpans, s
 use Rattle.reading.proofs.TakenCases.{taken-case}
 use Rattle.reading.proofs.PartOrder.{ended-nil, walk-taken, read-walk, parts-in-order, bounds, order-ends}
 use Rattle.terms.proofs.TermLaws.{raws-append, bare-is, bare-split}
+use Rattle.forms.proofs.FormCases.{said-from, topic-from, property-from}
 
 -- ---- a property's name and operator have as many bytes as they say
 
@@ -45,46 +46,20 @@ starts-some k [] e = no-case (sym e)
 starts-some k (x ∷ t) e = let l = ap (λ (y : Sign). length (raw y ++ raws t)) (bare-is k x e) in omega arith
 
 said-size : (t : List Sign) (s : Said) → saidOf t ≡ some s → operatorOf s ≤ 1 + length (raws t)
-unfolding saidOf
-said-size t s h = go (starts 61 t) refl
-  where
-    go : (x : Bool) → starts 61 t ≡ x → operatorOf s ≤ 1 + length (raws t)
-    go true e =
-        let g = given-some (valueOf (drop 1 t)) _ s (rw e at h) in
-        let z : s ≡ matches (g .what) = sym (same-some _ s (g .gives)) in
-        let n = starts-some 61 t e in
-        rw z (omega arith)
-    go false e =
-        let g = given-some (valueOf t) _ s (rw e at h) in
-        let z : s ≡ equals (g .what) = sym (same-some _ s (g .gives)) in
-        rw z (omega arith)
+said-size t s h = said-from (λ x. operatorOf x ≤ 1 + length (raws t)) t (λ v e k. let n = starts-some 61 t e in omega arith) (λ v e k. omega arith) s h
 
 Sized : List Sign → Property → Type 0
 Sized t p = length (p .name) + operatorOf (p .said) ≤ length (raws t)
 
 topic-size : (t : List Sign) (p : Property) → topicOf t ≡ some p → Sized t p
-unfolding topicOf Sized
-topic-size t p h =
-    let c = cond-some (isName (raws t)) _ p h in
-    let z : p ≡ property (raws t) alone = sym (same-some _ p (c .1)) in
-    rw z (omega arith)
+unfolding Sized
+topic-size t p h = topic-from (λ q. length (q .name) + operatorOf (q .said) ≤ length (raws t)) t (λ n. omega arith) p h
 
 property-size : (t : List Sign) (p : Property) → propertyOf t ≡ some p → Sized t p
-unfolding propertyOf Sized
-property-size t p h = go (hasEq t) refl
-  where
-    go : (x : Bool) → hasEq t ≡ x → length (p .name) + operatorOf (p .said) ≤ length (raws t)
-    go true e =
-        let c = cond-some (isName (raws (upTo (isBare 61) t))) _ p (rw e at h) in
-        let g = given-some (saidOf (past (isBare 61) t)) _ p (c .1) in
-        let z : p ≡ property (raws (upTo (isBare 61) t)) (g .what) = sym (same-some _ p (g .gives)) in
-        let s = said-size (past (isBare 61) t) (g .what) (g .is) in
-        let l = split-size 61 t e in
-        rw z (omega arith)
-    go false e =
-        let c = cond-some (isName (raws t)) _ p (rw e at h) in
-        let z : p ≡ property (raws t) alone = sym (same-some _ p (c .1)) in
-        rw z (omega arith)
+unfolding Sized
+property-size t p h =
+    property-from (λ q. length (q .name) + operatorOf (q .said) ≤ length (raws t)) t (λ x n. omega arith)
+    (λ s x n e. let k = said-size (past (isBare 61) t) s e in let l = split-size 61 t x in omega arith) p h
 
 -- ---- what a taken part names lies in its term
 

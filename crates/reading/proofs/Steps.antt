@@ -44,6 +44,7 @@ use Rattle.reading.specs.Records.{optionRecord, valueRecord, recordOf, r
 use Rattle.reading.specs.Cursor.{shownOf, decidedOf, nextShown, cursor, step, givenOn, givenEnd, givenAt, givenOf, cursorAfter, stepOf, left, start}
 use Rattle.reading.specs.Shown.{valueShown, recordShown, optionSize, recordSize, nameSize, counted}
 use Rattle.reading.proofs.TakenCases.{taken-case}
+use Rattle.forms.proofs.FormCases.{topic-from, property-from}
 
 -- ---- a part by what is shown of it
 
@@ -103,23 +104,10 @@ name-most (b ∷ s) e =
     omega arith
 
 pub topic-name : (t : List Sign) (p : Property) → topicOf t ≡ some p → isName (p .name) ≡ true
-unfolding topicOf
-topic-name t p h =
-    let c = cond-some (isName (raws t)) _ p h in
-    sym (ap (λ (q : Property). isName (q .name)) (same-some _ p (c .1))) ∙ c .0
+topic-name t p h = topic-from (λ q. isName (q .name) ≡ true) t (λ n. n) p h
 
 pub property-name : (t : List Sign) (p : Property) → propertyOf t ≡ some p → isName (p .name) ≡ true
-unfolding propertyOf
-property-name t p h = go (hasEq t) refl
-  where
-    go : (x : Bool) → hasEq t ≡ x → isName (p .name) ≡ true
-    go true e =
-        let c = cond-some (isName (raws (upTo (isBare 61) t))) _ p (rw e at h) in
-        let g = given-some (saidOf (past (isBare 61) t)) _ p (c .1) in
-        sym (ap (λ (q : Property). isName (q .name)) (same-some _ p (g .gives))) ∙ c .0
-    go false e =
-        let c = cond-some (isName (raws t)) _ p (rw e at h) in
-        sym (ap (λ (q : Property). isName (q .name)) (same-some _ p (c .1))) ∙ c .0
+property-name t p h = property-from (λ q. isName (q .name) ≡ true) t (λ x n. n) (λ s x n e. n) p h
 
 -- what a taken part says of the state and of itself
 pub record Took (count : ℕ) (i : Item) : Type 0 where

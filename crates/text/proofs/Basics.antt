@@ -73,6 +73,15 @@ none-some b e = absurd (let z : _≡_ {A = ℕ} 0 1 = cc in omega arith)
 pub same-some : {B : Type 0} (a b : B) → some a ≡ some b → a ≡ b
 same-some a b e = cc
 
+-- what is known of an answer, by what it was made from
+pub some-from : {B : Type 0} (P : B → Type 0) (x : Bool) (b : B) → (x ≡ true → P b) → (c : B) → cond x (some b) none ≡ some c → P c
+some-from P true b f c e = rw (sym (same-some b c e)) (f refl)
+some-from P false b f c e = none-some c e
+
+pub given-from : {A B : Type 0} (P : B → Type 0) (o : Option A) (f : A → B) → ((a : A) → o ≡ some a → P (f a)) → (c : B) → given o (λ a. some (f a)) ≡ some c → P c
+given-from P none f g c e = none-some c e
+given-from P (some a) f g c e = rw (sym (same-some (f a) c e)) (g a refl)
+
 pub same-eq : (a b : List ℕ) → sameBytes a b ≡ true → a ≡ b
 unfolding sameBytes
 same-eq [] [] e = refl
