@@ -110,9 +110,9 @@ each-good [] k = refl
 each-good (e ∷ es) k = entry-good e (each (bare 44) (map writeEntry es)) (and-l (okEntry e) (allOf okEntry es) k) ∙ each-good es (and-r (okEntry e) (allOf okEntry es) k)
 
 pub entries-good : (es : List Entry) → allOf okEntry es ≡ true → good false (between (bare 44) (map writeEntry es)) ≡ true
-unfolding allOf between good
+unfolding between each good
 entries-good [] k = refl
-entries-good (e ∷ es) k = entry-good e (each (bare 44) (map writeEntry es)) (and-l (okEntry e) (allOf okEntry es) k) ∙ each-good es (and-r (okEntry e) (allOf okEntry es) k)
+entries-good (e ∷ es) k = each-good (e ∷ es) k
 
 pub entries-some : (es : List Entry) → isNil es ≡ false → allOf okEntry es ≡ true → isNil (between (bare 44) (map writeEntry es)) ≡ false
 unfolding allOf between writeEntry okEntry

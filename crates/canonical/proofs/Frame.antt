@@ -1,7 +1,7 @@
 -- The read-back theorem from what is said of one term: the walkTerms over the written terms follows the walkTerms over the line's. Assumes nothing.
 use Prim.Native.Nat.{ℕ, suc, _+_, _≤_}
 use mathlib.Core.Path.{_≡_, refl, sym, ap, _∙_}
-use mathlib.Core.List.{List, [], _∷_, _++_, map, append-nil}
+use mathlib.Core.List.{List, [], _∷_, _++_, map, append-nil, tail-eq-of-cons-eq}
 use mathlib.Core.Bool.{Bool, true, false, cond, not, _&&_}
 use mathlib.Core.Option.{Option, none, some}
 use native.Mathlib.Omega.{arith}
@@ -16,13 +16,13 @@ use Rattle.terms.specs.Rows.{endMode}
 use Rattle.terms.specs.Signs.{Sign, after, atEnd, bare, gives, raw, raws, signs, standsFor}
 use Rattle.terms.specs.Terms.{Term, isGap, termsFrom, termsOf}
 use Rattle.terms.specs.declared.Mode.{Mode}
-use Rattle.terms.specs.declared.Mode.the-variants.{In, InGrave, Out, OutGrave}
+use Rattle.terms.specs.declared.Mode.the-variants.{Out}
 use Rattle.text.specs.Bytes.{printable}
 use Rattle.text.specs.Lists.{allOf, anyOf, between, each, given, isNil, upTo, walk}
 use Rattle.text.proofs.Basics.{and-l, and-r, and-in, all-append, all-up, up-at, up-all, or-l, or-r}
 use Rattle.canonical.proofs.Lexing.{good, good-read, good-end, good-clean, good-solid}
 use Rattle.terms.proofs.TermLaws.{raws-append, bare-signs}
-use Rattle.terms.proofs.ByteCases.{gives-case}
+use Rattle.terms.proofs.ByteCases.{gives-case, end-case}
 use Rattle.reading.proofs.PartOrder.{read-walk}
 use Rattle.terms.proofs.RowLaws.{no-row, lone-is, open-is, isGrave, isIn}
 
@@ -107,12 +107,9 @@ each-read (w ∷ ws) k =
     ∙ ap (λ z. w ++ z) (each-read ws (and-r (word w) (allOf word ws) k)))
 
 words-read : (ws : List (List Sign)) → allOf word ws ≡ true → signs Out (raws (between (bare 32) ws)) ≡ between (bare 32) ws
-unfolding between allOf raws signs
+unfolding between each raws signs
 words-read [] k = refl
-words-read (w ∷ ws) k =
-    ap (signs Out) (raws-append w (each (bare 32) ws))
-    ∙ good-read false w (word-good w (and-l (word w) (allOf word ws) k)) (raws (each (bare 32) ws))
-    ∙ ap (λ z. w ++ z) (each-read ws (and-r (word w) (allOf word ws) k))
+words-read (w ∷ ws) k = tail-eq-of-cons-eq (sym (bare-signs 32 (raws (w ++ each (bare 32) ws)) refl refl) ∙ each-read (w ∷ ws) k)
 
 each-end : (ws : List (List Sign)) → allOf word ws ≡ true → endMode Out (raws (each (bare 32) ws)) ≡ Out
 unfolding each allOf raws endMode walk after
@@ -123,12 +120,9 @@ each-end (w ∷ ws) k =
     ∙ each-end ws (and-r (word w) (allOf word ws) k)
 
 words-end : (ws : List (List Sign)) → allOf word ws ≡ true → endMode Out (raws (between (bare 32) ws)) ≡ Out
-unfolding between allOf raws endMode walk
+unfolding between each raws endMode walk after
 words-end [] k = refl
-words-end (w ∷ ws) k =
-    ap (endMode Out) (raws-append w (each (bare 32) ws))
-    ∙ good-end false w (word-good w (and-l (word w) (allOf word ws) k)) (raws (each (bare 32) ws))
-    ∙ each-end ws (and-r (word w) (allOf word ws) k)
+words-end (w ∷ ws) k = each-end (w ∷ ws) k
 
 each-clean : (ws : List (List Sign)) → allOf word ws ≡ true → allOf printable (raws (each (bare 32) ws)) ≡ true
 unfolding each allOf raws
@@ -139,12 +133,9 @@ each-clean (w ∷ ws) k =
     (each-clean ws (and-r (word w) (allOf word ws) k))
 
 words-clean : (ws : List (List Sign)) → allOf word ws ≡ true → allOf printable (raws (between (bare 32) ws)) ≡ true
-unfolding between allOf raws
+unfolding between each allOf raws
 words-clean [] k = refl
-words-clean (w ∷ ws) k =
-    ap (allOf printable) (raws-append w (each (bare 32) ws))
-    ∙ all-append printable (raws w) (raws (each (bare 32) ws)) (good-clean false w (word-good w (and-l (word w) (allOf word ws) k)))
-    (each-clean ws (and-r (word w) (allOf word ws) k))
+words-clean (w ∷ ws) k = each-clean (w ∷ ws) k
 
 length-texts : (ts : List Term) → length (texts ts) ≡ length ts
 unfolding texts
@@ -164,10 +155,7 @@ gives-clean m b e =
 
 end-clean : (m : Mode) → allOf cleanSign (atEnd m) ≡ true
 unfolding allOf
-end-clean Out = refl
-end-clean OutGrave = refl
-end-clean In = refl
-end-clean InGrave = refl
+end-clean = end-case (λ m z. allOf cleanSign z ≡ true) refl refl refl refl
 
 signs-clean : (m : Mode) (s : List ℕ) → allOf printable s ≡ true → allOf cleanSign (signs m s) ≡ true
 unfolding allOf signs

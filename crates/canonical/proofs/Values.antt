@@ -10,10 +10,10 @@ use lib.Dec.{eqb, leb}
 use borrow.Author.Tests.{eqb-true, ne-eqb, le-leb, leb-true, not-true}
 use Rattle.canonical.specs.Canonical.{closing, inQuotes, writeText, writeTexts, writeValue}
 use Rattle.forms.specs.Forms.{Value, endsQuote, isList, isPlainSign, isText, itemsIn, listOf, many, one, starts, textOf, valueOf}
-use Rattle.terms.specs.Signs.{Sign, bare, isBare, quote, stands, standsFor, two, bares}
+use Rattle.terms.specs.Signs.{Sign, bare, isBare, quote, stands, standsFor, two, bares, quoted, quotedEscaped}
 use Rattle.text.specs.Bytes.{bytes, isDigit, isLetter, isWord, oneOf, printable}
 use Rattle.text.specs.Lists.{allOf, anyOf, between, each, isNil, parts, past, upTo}
-use Rattle.text.proofs.Basics.{and-l, and-r, or-l, no-case, all-append, all-up, parts-all, parts-between, up-at, past-at, any-at, or-case, all-mono, any-between, map-some, all-drop}
+use Rattle.text.proofs.Basics.{and-l, and-r, or-l, no-case, all-append, all-up, parts-all, parts-between, up-at, past-at, any-at, or-case, all-mono, any-between, map-some, all-drop, or-r}
 use Rattle.canonical.proofs.Lexing.{okBare, okSign, good}
 use Rattle.canonical.proofs.Frame.{cleanSign}
 use Rattle.text.proofs.Classes.{within-low, within-high}
@@ -79,38 +79,27 @@ good-bares (b ∷ s) w e = simp (and-l (okBare b) (allOf okBare s) e, good-bares
 -- ---- texts
 
 -- the sign of a byte in quotes
-quoted-ok : (b : ℕ) → printable b ≡ true → okSign true (inQuotes b) ≡ true
-unfolding inQuotes two oneOf bytes
-quoted-ok b e = go (eqb b 96) (eqb b 34) refl refl
+pub quotes-case : (P : Sign → Type 0) (b : ℕ) → (oneOf two b ≡ true → P (quotedEscaped b)) → (oneOf two b ≡ false → P (quoted b)) → P (inQuotes b)
+unfolding inQuotes
+quotes-case P b pair other = go (oneOf two b) refl
   where
-    go : (x y : Bool) → eqb b 96 ≡ x → eqb b 34 ≡ y → okSign true (inQuotes b) ≡ true
-    go true y p q = simp (p, e)
-    go false true p q = simp (p, q, e)
-    go false false p q = simp (p, q, e)
+    go : (x : Bool) → oneOf two b ≡ x → P (inQuotes b)
+    go true p = rw p (pair p)
+    go false p = rw p (other p)
+
+quoted-ok : (b : ℕ) → printable b ≡ true → okSign true (inQuotes b) ≡ true
+unfolding two oneOf bytes
+quoted-ok b e =
+    quotes-case (λ x. okSign true x ≡ true) b (λ p. simp (p, e)) (λ p. simp (or-l (eqb b 96) (eqb b 34 || false) p, or-l (eqb b 34) false (or-r (eqb b 96) (eqb b 34 || false) p), e))
 
 quoted-stays : (b : ℕ) → turns true (inQuotes b) ≡ true
-unfolding inQuotes
-quoted-stays b = go (oneOf two b) refl
-  where
-    go : (x : Bool) → oneOf two b ≡ x → turns true (inQuotes b) ≡ true
-    go true p = rw p
-    go false p = rw p
+quoted-stays b = quotes-case (λ x. turns true x ≡ true) b (λ _. refl) (λ _. refl)
 
 quoted-stands : (b : ℕ) → standsFor (inQuotes b) ≡ b ∷ []
-unfolding inQuotes
-quoted-stands b = go (oneOf two b) refl
-  where
-    go : (x : Bool) → oneOf two b ≡ x → standsFor (inQuotes b) ≡ b ∷ []
-    go true p = rw p
-    go false p = rw p
+quoted-stands b = quotes-case (λ x. standsFor x ≡ b ∷ []) b (λ _. refl) (λ _. refl)
 
 quoted-bare : (k b : ℕ) → isBare k (inQuotes b) ≡ false
-unfolding inQuotes
-quoted-bare k b = go (oneOf two b) refl
-  where
-    go : (x : Bool) → oneOf two b ≡ x → isBare k (inQuotes b) ≡ false
-    go true p = rw p
-    go false p = rw p
+quoted-bare k b = quotes-case (λ x. isBare k x ≡ false) b (λ _. refl) (λ _. refl)
 
 closing-good : (s : List ℕ) (w : List Sign) → allOf printable s ≡ true → good true (closing s ++ w) ≡ good false w
 unfolding allOf closing good
@@ -119,13 +108,9 @@ closing-good (b ∷ s) w e =
     simp (quoted-ok b (and-l (printable b) (allOf printable s) e), quoted-stays b, closing-good s w (and-r (printable b) (allOf printable s) e))
 
 closing-ends : (s : List ℕ) → endsQuote (closing s) ≡ true
-unfolding closing endsQuote inQuotes
+unfolding closing endsQuote
 closing-ends [] = refl
-closing-ends (b ∷ s) = go (oneOf two b) refl (closing-ends s)
-  where
-    go : (x : Bool) → oneOf two b ≡ x → endsQuote (closing s) ≡ true → endsQuote (closing (b ∷ s)) ≡ true
-    go true p ih = rw p ih
-    go false p ih = rw p ih
+closing-ends (b ∷ s) = quotes-case (λ x. endsQuote (x ∷ closing s) ≡ true) b (λ _. closing-ends s) (λ _. closing-ends s)
 
 closing-stands : (s : List ℕ) → stands (closing s) ≡ s
 unfolding closing stands

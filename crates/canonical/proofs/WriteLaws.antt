@@ -16,13 +16,14 @@ use Rattle.text.proofs.Scans.{drop-step, run-all, all-run}
 use Rattle.text.proofs.Writes.{sets-append, sets-rest}
 use Rattle.terms.specs.declared.Mode.{Mode}
 use Rattle.terms.specs.declared.Mode.the-variants.{Out, OutGrave, In, InGrave}
-use Rattle.terms.specs.Signs.{Sign, bare, quoted, quotedEscaped, twelve, two, after, gives, atEnd, signs, raw, raws, stands, meant}
+use Rattle.terms.specs.Signs.{Sign, bare, twelve, two, after, gives, atEnd, signs, raw, raws, stands, meant}
 use Rattle.terms.proofs.TermLaws.{raws-signs, raws-bares, raws-append}
 use Rattle.canonical.specs.Canonical.{inQuotes, closing, writeText}
 use Rattle.canonical.specs.Written.{graves, graved, gravedAll, quotes, isPlain, parting, textSigns, rewriteFrom, rewritten, textIn, textsIn, isParting, textLen, leadsDash, slash, slashed}
 use Rattle.canonical.proofs.TextWriting.{rewrite-over}
-use Rattle.terms.proofs.ByteCases.{gives-case}
+use Rattle.terms.proofs.ByteCases.{gives-case, end-case}
 use Rattle.forms.proofs.TextLaws.{no-comma, no-open, no-close, no-equal}
+use Rattle.canonical.proofs.Values.{quotes-case}
 
 -- ---- stores
 
@@ -72,12 +73,8 @@ unfolding gravedAll
 graved-past q l i h = rw (drop-of-length-le l h)
 
 quoted-byte : (b : ℕ) → raw (inQuotes b) ≡ graved true b
-unfolding inQuotes graved
-quoted-byte b = go (oneOf two b)
-  where
-    go : (x : Bool) → raw (cond x (quotedEscaped b) (quoted b)) ≡ cond x (96 ∷ b ∷ []) (b ∷ [])
-    go true = refl
-    go false = refl
+unfolding graved
+quoted-byte b = quotes-case (λ x. raw x ≡ cond (oneOf two b) (96 ∷ b ∷ []) (b ∷ [])) b (λ p. rw p) (λ p. rw p)
 
 closing-bytes : (s : List ℕ) → raws (closing s) ≡ gravedAll true s ++ (34 ∷ [])
 unfolding raws closing gravedAll
@@ -161,10 +158,7 @@ afterText (c ∷ r) = bare c ∷ rewritten (signs Out r)
 
 end-solid : (m : Mode) → anyOf parting (atEnd m) ≡ false
 unfolding anyOf parting
-end-solid Out = refl
-end-solid OutGrave = refl
-end-solid In = refl
-end-solid InGrave = refl
+end-solid = end-case (λ m z. anyOf parting z ≡ false) refl refl refl refl
 
 -- GRAVE escapes each byte that parts
 grave-solid : (b : ℕ) → oneOf twelve b ≡ false → parting (bare b) ≡ false

@@ -96,12 +96,15 @@ whole (some f) left h = go (ltb left (1 + total (f .fields))) refl h
       within = ltb-false left (1 + total (f .fields)) e;
     }
 
-pub whole-kind : (k left : ℕ) → 0 < lenBy (formOf k) left → k ≤ 7
-whole-kind k left h = go (ltb 7 k) refl
+form-small : (k : ℕ) (f : Form) → formOf k ≡ some f → k ≤ 7
+form-small k f e = go (ltb 7 k) refl
   where
     go : (t : Bool) → ltb 7 k ≡ t → k ≤ 7
-    go true e = let l : 0 < lenBy none left = subst (λ (o : Option Form). 0 < lenBy o left) (form-past k (ltb-true 7 k e)) h in absurd (omega arith)
-    go false e = ltb-false 7 k e
+    go true q = none-some f (sym (form-past k (ltb-true 7 k q)) ∙ e)
+    go false q = ltb-false 7 k q
+
+pub whole-kind : (k left : ℕ) → 0 < lenBy (formOf k) left → k ≤ 7
+whole-kind k left h = let w = whole (formOf k) left h in form-small k (w .what) (w .is)
 
 -- ---- the table of widths
 
@@ -484,13 +487,6 @@ unfolding formOf forms bytes total
 six-by =
     eight (λ (k : ℕ). length (wordBy (formOf k)) + (6 * length (fieldsBy (formOf k)) + 1) ≤ 6 * (1 + total (fieldsBy (formOf k))))
     (omega arith) (omega arith) (omega arith) (omega arith) (omega arith) (omega arith) (omega arith) (omega arith)
-
-form-small : (k : ℕ) (f : Form) → formOf k ≡ some f → k ≤ 7
-form-small k f e = go (ltb 7 k) refl
-  where
-    go : (t : Bool) → ltb 7 k ≡ t → k ≤ 7
-    go true q = none-some f (sym (form-past k (ltb-true 7 k q)) ∙ e)
-    go false q = ltb-false 7 k q
 
 record-six : (k : ℕ) (f : Form) (s : List ℕ) → formOf k ≡ some f → length (recordText f s) ≤ 6 * (1 + total (f .fields))
 record-six k f s e =

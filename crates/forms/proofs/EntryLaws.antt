@@ -25,7 +25,7 @@ use Rattle.forms.specs.Steps.{bareAt, endsItem, itemLen, isEntryIn}
 use Rattle.forms.proofs.Lists.{taken-step}
 use Rattle.forms.proofs.TextLaws.{no-comma, no-open, no-close, items-close, items-comma, items-other, items-some}
 use Rattle.forms.proofs.PropertyLaws.{taken-part}
-use Rattle.terms.proofs.ByteCases.{gives-case}
+use Rattle.terms.proofs.ByteCases.{gives-case, end-case}
 
 -- ---- the items of display and output
 
@@ -53,10 +53,7 @@ byte-parts m l b r =
 
 end-parts : (m : Mode) (l : Bool) → entryParts l (atEnd m) ≡ atEnd m ∷ []
 unfolding entryParts
-end-parts Out l = refl
-end-parts OutGrave l = simp (and-false (not l))
-end-parts In l = refl
-end-parts InGrave l = simp (and-false (not l))
+end-parts m l = end-case (λ k z. entryParts l z ≡ z ∷ []) refl (simp (and-false (not l))) refl (simp (and-false (not l))) m
 
 -- there is at least one item
 pub entry-parts-some : (l : Bool) (t : List Sign) → isNil (entryParts l t) ≡ false
@@ -248,10 +245,7 @@ byte-items m b r =
 
 end-items : (m : Mode) → itemsIn (atEnd m) ≡ atEnd m ∷ []
 unfolding itemsIn upTo parts
-end-items Out = refl
-end-items OutGrave = refl
-end-items In = refl
-end-items InGrave = refl
+end-items = end-case (λ m z. itemsIn z ≡ z ∷ []) refl refl refl refl
 
 stop-items : (m : Mode) (b : ℕ) (s : List ℕ) → endsItem m b ≡ true → itemsIn (signs m (b ∷ s)) ≡ atEnd m ∷ afterItem (b ∷ s)
 unfolding signs gives after afterItem

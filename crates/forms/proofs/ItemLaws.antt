@@ -18,7 +18,7 @@ use Rattle.forms.specs.Forms.{isText, itemsIn, isList}
 use Rattle.forms.specs.Steps.{bareAt, endsItem, itemLen}
 use Rattle.forms.proofs.TextLaws.{no-close}
 use Rattle.forms.proofs.EntryLaws.{item-within}
-use Rattle.terms.proofs.ByteCases.{gives-case}
+use Rattle.terms.proofs.ByteCases.{gives-case, end-case}
 
 -- has it a bare closing parenthesis?
 unfoldable pub closed : Mode → List ℕ → Bool
@@ -36,10 +36,7 @@ byte-closed m b r =
 
 end-closed : (m : Mode) → anyOf (isBare 41) (atEnd m) ≡ false
 unfolding anyOf
-end-closed Out = refl
-end-closed OutGrave = refl
-end-closed In = refl
-end-closed InGrave = refl
+end-closed = end-case (λ m z. anyOf (isBare 41) z ≡ false) refl refl refl refl
 
 stop-closed : (m : Mode) (b : ℕ) (s : List ℕ) → endsItem m b ≡ true → closed m (b ∷ s) ≡ closedAfter (b ∷ s)
 unfolding closed closedAfter signs gives after anyOf

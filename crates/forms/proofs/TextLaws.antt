@@ -21,7 +21,7 @@ use Rattle.forms.specs.Automata.{textStep, whole, textFrom, textOver, te
 use Rattle.forms.specs.Steps.{bareAt, nextItem, listStep, itemsAfter}
 use Rattle.forms.proofs.Lists.{taken-step, last-one}
 use Rattle.text.proofs.Classes.{other-byte}
-use Rattle.terms.proofs.ByteCases.{gives-case, out-case, grave-first}
+use Rattle.terms.proofs.ByteCases.{gives-case, out-case, grave-first, end-case}
 
 -- ---- a quoted string or plain
 
@@ -227,10 +227,7 @@ list-over q k m b r =
 
 list-end : (q : At) (k : ℕ) (m : Mode) → listFrom q k (atEnd m) ≡ false
 unfolding listFrom
-list-end q k Out = refl
-list-end q k OutGrave = refl
-list-end q k In = refl
-list-end q k InGrave = refl
+list-end q k = end-case (λ m z. listFrom q k z ≡ false) refl refl refl refl
 
 -- a text that has bytes has signs
 pub signs-nil : (s : List ℕ) → isNil (signs Out s) ≡ isNil s

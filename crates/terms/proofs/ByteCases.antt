@@ -7,7 +7,7 @@ use lib.Dec.{eqb}
 use Rattle.text.specs.Bytes.{oneOf}
 use Rattle.terms.specs.declared.Mode.{Mode}
 use Rattle.terms.specs.declared.Mode.the-variants.{Out, OutGrave, In, InGrave}
-use Rattle.terms.specs.Signs.{Sign, bare, escaped, quote, quoted, quotedEscaped, twelve, two, after, gives, signs}
+use Rattle.terms.specs.Signs.{Sign, bare, escaped, quote, quoted, quotedEscaped, twelve, two, after, gives, atEnd, signs}
 
 module _ (P : List Sign → Mode → Type 0) (b : ℕ) where
   -- outside quotes: a GRAVE, a quote mark, any other byte
@@ -66,6 +66,13 @@ gives-case P b grave mark other pair no-pair grave-in mark-in other-in pair-in n
 gives-case P b grave mark other pair no-pair grave-in mark-in other-in pair-in no-pair-in OutGrave = out-grave-case (P OutGrave) b pair no-pair
 gives-case P b grave mark other pair no-pair grave-in mark-in other-in pair-in no-pair-in In = in-case (P In) b grave-in mark-in other-in
 gives-case P b grave mark other pair no-pair grave-in mark-in other-in pair-in no-pair-in InGrave = in-grave-case (P InGrave) b pair-in no-pair-in
+
+-- what stands at a text's end, in each mode
+pub end-case : (P : Mode → List Sign → Type 0) → P Out [] → P OutGrave (bare 96 ∷ []) → P In [] → P InGrave (quoted 96 ∷ []) → (m : Mode) → P m (atEnd m)
+end-case P out grave in′ grave-in Out = out
+end-case P out grave in′ grave-in OutGrave = grave
+end-case P out grave in′ grave-in In = in′
+end-case P out grave in′ grave-in InGrave = grave-in
 
 -- after a GRAVE outside quotes the first sign is that GRAVE, or the byte that it escapes
 pub grave-first : (P : List Sign → Type 0) → ((r : List Sign) → P (bare 96 ∷ r)) → ((b : ℕ) (r : List Sign) → P (escaped b ∷ r)) → (s : List ℕ) → P (signs OutGrave s)

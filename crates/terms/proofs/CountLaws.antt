@@ -15,6 +15,7 @@ use Rattle.terms.specs.Signs.{Sign, bare, after, gives, atEnd, signs, ra
 use Rattle.terms.specs.Terms.{isGap, Term, termsFrom, termsOf}
 use Rattle.terms.specs.Scan.{isSpace, gapByte}
 use Rattle.terms.proofs.TermLaws.{gives-solid, signs-length}
+use Rattle.terms.proofs.ByteCases.{end-case}
 
 -- ---- by bytes: between two terms stands a gap, so each but the last takes two signs at least
 
@@ -103,10 +104,7 @@ gives-parts m b r = go (gapByte m b) refl
 
 end-parts : (m : Mode) → length (parts isGap (atEnd m)) ≡ 1
 unfolding parts
-end-parts Out = refl
-end-parts OutGrave = refl
-end-parts In = refl
-end-parts InGrave = refl
+end-parts = end-case (λ m z. length (parts isGap z) ≡ 1) refl refl refl refl
 
 -- so the gaps part the signs into no more parts than the spaces part the bytes
 signs-parts : (m : Mode) (s : List ℕ) → length (parts isGap (signs m s)) ≤ length (parts isSpace s)

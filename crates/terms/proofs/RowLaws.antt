@@ -24,7 +24,7 @@ use Rattle.terms.specs.Rows.{orElse, longFlaw, oddFlaw, endMode, opens, 
 use Rattle.terms.specs.RowWords.{lineSigns, isLone, endsLone, turns, endsOpen, marked, lastMark, startOf, Row1, Row2, Row3, Row4, Row5, NoRow}
 use Rattle.terms.proofs.Paper.{twelve-grave, two-grave, as-the-paper-says}
 use Rattle.terms.proofs.TermLaws.{pend, gives-width}
-use Rattle.terms.proofs.ByteCases.{gives-case}
+use Rattle.terms.proofs.ByteCases.{gives-case, end-case}
 
 -- ---- row 2: the first byte that fails a test stands where the run of those that pass ends
 
@@ -71,10 +71,7 @@ gives-no-lone m b =
 
 end-lone : (m : Mode) → walk lone false (atEnd m) ≡ isGrave m
 unfolding walk
-end-lone Out = refl
-end-lone OutGrave = refl
-end-lone In = refl
-end-lone InGrave = refl
+end-lone = end-case (λ m z. walk lone false z ≡ isGrave m) refl refl refl refl
 
 lone-mode : (m : Mode) (s : List ℕ) → walk lone false (signs m s) ≡ isGrave (endMode m s)
 unfolding signs endMode walk
@@ -92,10 +89,7 @@ gives-turns m b =
 
 end-turns : (m : Mode) → walk turns (isIn m) (atEnd m) ≡ isIn m
 unfolding walk
-end-turns Out = refl
-end-turns OutGrave = refl
-end-turns In = refl
-end-turns InGrave = refl
+end-turns = end-case (λ m z. walk turns (isIn m) z ≡ isIn m) refl refl refl refl
 
 open-mode : (m : Mode) (s : List ℕ) → walk turns (isIn m) (signs m s) ≡ isIn (endMode m s)
 unfolding signs endMode walk
@@ -132,10 +126,7 @@ mark-step m b i j q r =
 
 end-mark : (m : Mode) (i r : ℕ) → lastMark i r (atEnd m) ≡ r
 unfolding lastMark
-end-mark Out i r = refl
-end-mark OutGrave i r = refl
-end-mark In i r = refl
-end-mark InGrave i r = refl
+end-mark m i r = end-case (λ k z. lastMark i r z ≡ r) refl refl refl refl m
 
 mark-mode : (m : Mode) (s : List ℕ) (i j q r : ℕ) → j ≡ i + pend m → (isIn m ≡ true → q ≡ r) → isIn (endMode m s) ≡ true → openedAt m j q s ≡ lastMark i r (signs m s)
 unfolding openedAt signs endMode walk

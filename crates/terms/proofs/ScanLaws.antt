@@ -24,7 +24,7 @@ use Rattle.terms.specs.Rows.{longFlaw, endMode, opens, openedAt, endFlaw
 use Rattle.terms.specs.Scan.{gapByte, termLen, found, startAt, termAt}
 use Rattle.terms.proofs.TermLaws.{pend, stands-on, stands-past, meant-length}
 use Rattle.text.proofs.Basics.{any-over}
-use Rattle.terms.proofs.ByteCases.{gives-case, out-case, out-grave-case, in-case, in-grave-case}
+use Rattle.terms.proofs.ByteCases.{gives-case, out-case, out-grave-case, in-case, in-grave-case, end-case}
 
 -- ---- the term at a place
 
@@ -148,10 +148,7 @@ in-grave-no-mark b = in-grave-case (λ g m. anyOf isMark g ≡ false) b (λ _. r
 
 pub end-no-mark : (m : Mode) → anyOf isMark (atEnd m) ≡ false
 unfolding anyOf
-end-no-mark Out = refl
-end-no-mark OutGrave = refl
-end-no-mark In = refl
-end-no-mark InGrave = refl
+end-no-mark = end-case (λ m z. anyOf isMark z ≡ false) refl refl refl refl
 
 -- ---- the first sign
 

@@ -24,7 +24,7 @@ use Rattle.terms.specs.Terms.{isGap, Term, termsFrom, termsOf}
 use Rattle.terms.specs.Rows.{endMode}
 use Rattle.terms.specs.Scan.{isSpace, gapByte, termLen, found, startAt, termAt}
 use Rattle.terms.specs.Going.{going, sizeOf, answerOf, inOrder}
-use Rattle.terms.proofs.ByteCases.{gives-case, out-case, grave-first}
+use Rattle.terms.proofs.ByteCases.{gives-case, out-case, grave-first, end-case}
 
 -- ---- what one byte gives
 
@@ -68,10 +68,7 @@ skip-solid i (x ∷ a) r e =
 
 end-solid : (m : Mode) → upTo isGap (atEnd m) ≡ atEnd m
 unfolding upTo
-end-solid Out = refl
-end-solid OutGrave = refl
-end-solid In = refl
-end-solid InGrave = refl
+end-solid = end-case (λ m z. upTo isGap z ≡ z) refl refl refl refl
 
 pub text-slice : (m : Mode) (s : List ℕ) → upTo isGap (signs m s) ≡ signs m (take (termLen m s) s)
 unfolding signs termLen
@@ -89,10 +86,7 @@ text-slice m (b ∷ s) = go (gapByte m b) refl (text-slice (after m b) s)
 
 end-none : (i : ℕ) (m : Mode) → termsFrom i false (atEnd m) ≡ []
 unfolding termsFrom
-end-none i Out = refl
-end-none i OutGrave = refl
-end-none i In = refl
-end-none i InGrave = refl
+end-none i = end-case (λ m z. termsFrom i false z ≡ []) refl refl refl refl
 
 space-next : (i : ℕ) (g : Bool) (s : List ℕ) → termsFrom i g (signs Out (32 ∷ s)) ≡ termsFrom (i + 1) true (signs Out s)
 unfolding termsFrom signs gives after
@@ -234,10 +228,7 @@ gives-raw m b s =
 
 ends : (m : Mode) → raws (atEnd m) ≡ held m ++ []
 unfolding raws held
-ends Out = refl
-ends OutGrave = refl
-ends In = refl
-ends InGrave = refl
+ends = end-case (λ m z. raws z ≡ held m ++ []) refl refl refl refl
 
 raws-from : (m : Mode) (s : List ℕ) → raws (signs m s) ≡ held m ++ s
 unfolding signs

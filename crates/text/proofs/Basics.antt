@@ -252,11 +252,9 @@ module _ {A : Type 0} (f : A → Bool) where
       simp e (any-append w (each x ws) l (any-each x ws e (and-r (not (anyOf f w)) (allOf (λ v. not (anyOf f v)) ws) k)))
 
   pub any-between : (x : A) (ws : List (List A)) → f x ≡ false → allOf (λ w. not (anyOf f w)) ws ≡ true → anyOf f (between x ws) ≡ false
-  unfolding allOf between anyOf
+  unfolding between anyOf each
   any-between x [] e k = refl
-  any-between x (w ∷ ws) e k =
-      let l = not-true (anyOf f w) (and-l (not (anyOf f w)) (allOf (λ v. not (anyOf f v)) ws) k) in
-      any-append w (each x ws) l (any-each x ws e (and-r (not (anyOf f w)) (allOf (λ v. not (anyOf f v)) ws) k))
+  any-between x (w ∷ ws) e k = or-r (f x) (anyOf f (w ++ each x ws)) (any-each x (w ∷ ws) e k)
 
   -- all of the parts, and what stands between them
   pub all-each : (x : A) (ws : List (List A)) → f x ≡ true → allOf (allOf f) ws ≡ true → allOf f (each x ws) ≡ true
@@ -266,10 +264,9 @@ module _ {A : Type 0} (f : A → Bool) where
       simp e (all-append w (each x ws) (and-l (allOf f w) (allOf (allOf f) ws) k) (all-each x ws e (and-r (allOf f w) (allOf (allOf f) ws) k)))
 
   pub all-between : (x : A) (ws : List (List A)) → f x ≡ true → allOf (allOf f) ws ≡ true → allOf f (between x ws) ≡ true
-  unfolding allOf between
+  unfolding between allOf each
   all-between x [] e k = refl
-  all-between x (w ∷ ws) e k =
-      all-append w (each x ws) (and-l (allOf f w) (allOf (allOf f) ws) k) (all-each x ws e (and-r (allOf f w) (allOf (allOf f) ws) k))
+  all-between x (w ∷ ws) e k = and-r (f x) (allOf f (w ++ each x ws)) (all-each x (w ∷ ws) e k)
 
   -- what is known of all is known of a part
   pub all-take : (n : ℕ) (a : List A) → allOf f a ≡ true → allOf f (take n a) ≡ true
