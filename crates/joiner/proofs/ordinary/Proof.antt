@@ -1,5 +1,6 @@
 -- `joiner::ordinary` meets its contract: the tests on the byte say its kind.
 -- Assumes nothing.
+use native.Mathlib.Omega.{arith}
 use mathlib.Core.Path.{sym, ap}
 use Rattle.joiner.specs.Lines.{isPlain}
 use Rattle.joiner.proofs.Laws.{kind-cr, kind-lf, kind-grave, kind-plain}
@@ -10,13 +11,16 @@ returns : tie.Need-returns
 returns c = sym (ap isPlain (kind-grave _ (c .if1 .taken)))
 
 returns-2 : tie.Need-returns-2
-returns-2 c = sym (ap isPlain (kind-cr _ (c .if2 .taken)))
+returns-2 c = sym (ap isPlain (kind-plain _ (λ e. omega (arith, c .if2 .taken, e)) (λ e. omega (arith, c .if2 .taken, e)) (c .before .if1 .left)))
 
 returns-3 : tie.Need-returns-3
-returns-3 c = sym (ap isPlain (kind-lf _ (c .if3 .taken)))
+returns-3 c = sym (ap isPlain (kind-cr _ (c .if3 .taken)))
 
 returns-4 : tie.Need-returns-4
-returns-4 c = sym (ap isPlain (kind-plain _ (c .before .if2 .left) (c .if3 .left) (c .before .before .if1 .left)))
+returns-4 c = sym (ap isPlain (kind-lf _ (c .if4 .taken)))
+
+returns-5 : tie.Need-returns-5
+returns-5 c = sym (ap isPlain (kind-plain _ (c .before .if3 .left) (c .if4 .left) (c .before .before .before .if1 .left)))
 
 pub ordinary-spec : {M : Type 1} → statement M
-ordinary-spec = tie.close (tie.spec returns returns-2 returns-3 returns-4)
+ordinary-spec = tie.close (tie.spec returns returns-2 returns-3 returns-4 returns-5)
