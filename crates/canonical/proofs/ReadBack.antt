@@ -10,7 +10,7 @@ use lib.Dec.{leb}
 use borrow.Author.Tests.{ne-eqb, not-true, not-false, lt-leb}
 use Rattle.canonical.proofs.Frame as frame
 use Rattle.canonical.specs.Canonical.{writeArgument, writeEntry, writeItem, writeOptional, writePlace, writeProperty, writeSaid, writeTarget, writing}
-use Rattle.forms.specs.Forms.{Entry, Property, hasEq, isKeep, isLevel, isName, propertyOf, starts, topicOf}
+use Rattle.forms.specs.Forms.{Entry, Property, hasEq, isName, propertyOf, starts, topicOf}
 use Rattle.forms.specs.Targets.{Target, targetOf}
 use Rattle.reading.specs.Command.{Argument, Item, argument, argumentBy, items, number, option, prop, target, text, verb}
 use Rattle.reading.specs.Reading.{commandOf, decide, decideAfter, decideArgument, decideIn, decideOption, decideProperty, decideTarget, decideVerb, takes}
@@ -29,7 +29,7 @@ use Rattle.canonical.proofs.Values.{letter-byte, stands-clean}
 use Rattle.canonical.proofs.Names.{okSaid, okProperty, okEntry, okOptional, property-again, property-good, property-some, property-ok, topic-again}
 use Rattle.canonical.proofs.Entries.{entries-again, entries-good, entries-some, entries-ok}
 use Rattle.canonical.proofs.Targets.{okWritten, target-ok}
-use Rattle.canonical.proofs.Places.{written-good, written-eq, written-dash, keep-ok, level-ok, place-ok, stands-some, verb-ok, option-ok}
+use Rattle.canonical.proofs.Places.{written-good, written-eq, written-dash, keep-ok, level-ok, place-ok, stands-some, verb-ok, option-ok, NumberOk}
 use Rattle.text.proofs.Basics.{and-l, and-r, no-case, map-some}
 use Rattle.terms.proofs.TermLaws.{raws-bares}
 use Rattle.reading.proofs.TakenCases.{taken-case, argument-from}
@@ -93,15 +93,8 @@ record ArgumentOk (k : Kind) (a : Argument) : Type 0 where
   dash : starts 45 (writeArgument a) ≡ false
   isWord : word (writeArgument a) ≡ true
 
-keep-back : (s : List ℕ) → isKeep s ≡ true → ArgumentOk Keep (number s)
-keep-back s e =
-    let o = keep-ok s e in
-    record { again = simp (raws-bares s, e); dash = written-dash s (o .bytesOk); isWord = bare-word s (o .isSome) (o .bytesOk) }
-
-level-back : (s : List ℕ) → isLevel s ≡ true → ArgumentOk Level (number s)
-level-back s e =
-    let o = level-ok s e in
-    record { again = simp (raws-bares s, e); dash = written-dash s (o .bytesOk); isWord = bare-word s (o .isSome) (o .bytesOk) }
+number-back : (k : Kind) (s : List ℕ) → NumberOk s → argumentBy k (bares s) ≡ some (number s) → ArgumentOk k (number s)
+number-back k s o a = record { again = a; dash = written-dash s (o .bytesOk); isWord = bare-word s (o .isSome) (o .bytesOk) }
 
 place-back : (s : List ℕ) → isNil s ≡ false → allOf printable s ≡ true → ArgumentOk Place (text s)
 place-back s n e =
@@ -120,7 +113,8 @@ argument-ok : (k : Kind) (t : List Sign) (a : Argument) → argumentBy k t ≡ s
 argument-ok k t a h c =
     let some′ = not-true (isNil t) (and-l (not (isNil t)) (allOf cleanSign t) c) in
     let clean = and-r (not (isNil t)) (allOf cleanSign t) c in
-    argument-from ArgumentOk t (keep-back (raws t)) (level-back (raws t)) (λ e. place-back (stands t) (stands-some t some′ e) (stands-clean t clean))
+    argument-from ArgumentOk t (λ e. number-back Keep (raws t) (keep-ok (raws t) e) (simp (raws-bares (raws t), e)))
+    (λ e. number-back Level (raws t) (level-ok (raws t) e) (simp (raws-bares (raws t), e))) (λ e. place-back (stands t) (stands-some t some′ e) (stands-clean t clean))
     (λ es e. let o = entries-ok t es e clean in entries-back es (o .0) (o .1)) k a h
 
 argument-back : (help : Bool) (seen : List Bool) (count n : ℕ) (t : List Sign) (a : Argument) → argumentBy (kindOf n) t ≡ some a → cleanText t ≡ true

@@ -12,7 +12,7 @@ use borrow.Author.Tests.{eq-eqb, ne-eqb}
 use Rattle.text.specs.Bytes.{bytes, oneOf, sameBytes, isWord}
 use Rattle.text.specs.Lists.{allOf, anyOf, runLen}
 use Rattle.text.proofs.Basics.{either, no-case}
-use Rattle.text.proofs.Scans.{drop-step, run-all, all-run}
+use Rattle.text.proofs.Scans.{drop-step, run-all, all-run, scan-within}
 use Rattle.text.proofs.Writes.{sets-append, sets-rest}
 use Rattle.terms.specs.declared.Mode.{Mode}
 use Rattle.terms.specs.declared.Mode.the-variants.{Out, OutGrave, In, InGrave}
@@ -144,12 +144,7 @@ text-past m l i h = rw (drop-of-length-le l h)
 
 pub text-within : (m : Mode) (s : List ℕ) → textLen m s ≤ length s
 unfolding textLen
-text-within m [] = omega arith
-text-within m (b ∷ s) = go (isParting m b) (text-within (after m b) s)
-  where
-    go : (x : Bool) → textLen (after m b) s ≤ length s → cond x 0 (suc (textLen (after m b) s)) ≤ suc (length s)
-    go true h = omega arith
-    go false h = omega arith
+text-within = scan-within isParting after textLen (λ m. refl) (λ m b s. refl)
 
 -- what stands from a text's end on: nothing, or what parts it from the next
 abbrev afterText : List ℕ → List Sign

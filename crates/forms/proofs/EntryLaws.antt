@@ -14,7 +14,7 @@ use Rattle.text.specs.Bytes.{bytes, oneOf}
 use Rattle.text.specs.Lists.{anyOf, upTo, parts, onto, isNil, given, every}
 use Rattle.text.proofs.Basics.{or-l, or-r, no-case}
 use Rattle.text.proofs.Slices.{part-from, drop-take}
-use Rattle.text.proofs.Scans.{drop-step}
+use Rattle.text.proofs.Scans.{drop-step, scan-within}
 use Rattle.terms.specs.declared.Mode.{Mode}
 use Rattle.terms.specs.declared.Mode.the-variants.{Out, OutGrave, In, InGrave}
 use Rattle.terms.specs.Signs.{Sign, bare, escaped, quote, quoted, quotedEscaped, isBare, twelve, two, after, gives, atEnd, signs}
@@ -101,12 +101,8 @@ entry-first s = entry-by Out false s
 -- an item is no longer than its text
 pub entry-within : (m : Mode) (l : Bool) (s : List ℕ) → entryLen m l s ≤ length s
 unfolding entryLen
-entry-within m l [] = omega arith
-entry-within m l (b ∷ s) = go (isComma m l b) (entry-within (after m b) (opened m l b) s)
-  where
-    go : (x : Bool) → entryLen (after m b) (opened m l b) s ≤ length s → cond x 0 (suc (entryLen (after m b) (opened m l b) s)) ≤ suc (length s)
-    go true h = omega arith
-    go false h = omega arith
+entry-within m l =
+    scan-within (λ (x : Mode × Bool). isComma (x .0) (x .1)) (λ x b. (after (x .0) b, opened (x .0) (x .1) b)) (λ x. entryLen (x .0) (x .1)) (λ x. refl) (λ x b s. refl) (m, l)
 
 -- its only item, and the first of more; k bytes are the first item
 module _ (u : List ℕ) (k : ℕ) (e : k ≡ entryLen Out false u) where
@@ -279,12 +275,7 @@ item-first s = item-by Out s
 
 pub item-within : (m : Mode) (s : List ℕ) → itemLen m s ≤ length s
 unfolding itemLen
-item-within m [] = omega arith
-item-within m (b ∷ s) = go (endsItem m b) (item-within (after m b) s)
-  where
-    go : (x : Bool) → itemLen (after m b) s ≤ length s → cond x 0 (suc (itemLen (after m b) s)) ≤ suc (length s)
-    go true h = omega arith
-    go false h = omega arith
+item-within = scan-within endsItem after itemLen (λ m. refl) (λ m b s. refl)
 
 -- by places: a comma follows its first k bytes, a parenthesis does, or nothing
 module _ (u : List ℕ) (k : ℕ) (e : k ≡ itemLen Out u) where

@@ -4,15 +4,16 @@ use mathlib.Core.Path.{_≡_, refl}
 use mathlib.Core.List.{List, [], _∷_, map}
 use mathlib.Core.Bool.{Bool, true, false, cond, _&&_}
 use mathlib.Core.Option.{Option, none, some}
-use lib.ListN.{length, drop}
+use lib.ListN.{length, take, drop}
 use lib.Dec.{leb}
-use Rattle.text.specs.Bytes.{sameBytes}
+use Rattle.text.specs.Bytes.{bytes, sameBytes}
+use Rattle.text.specs.Decimal.{valueFrom}
 use Rattle.text.specs.Lists.{upTo, past, parts, isNil, given}
 use Rattle.text.proofs.Basics.{and-l, and-r, cond-some, none-some, some-from, given-from, nil-is}
 use Rattle.terms.specs.Signs.{Sign, isBare, raws, stands}
 use Rattle.words.specs.Words.{sessionName}
 use Rattle.forms.specs.Forms.{starts, isName, isText, itemsIn, isList, listOf, textOf, Value, one, many, valueOf, hasEq, Said, alone, equals, matches, saidOf, Property, property, propertyOf, topicOf, Entry, entry, entryOf}
-use Rattle.forms.specs.Targets.{isSeparator, areSegments, Target, session, path, segmentsOf, pathOf, targetOf}
+use Rattle.forms.specs.Targets.{isSeparator, tagLen, isNumbered, isStarred, areSegments, Segment, here, above, child, children, segmentOf, Target, session, path, segmentsOf, pathOf, targetOf}
 
 -- ---- values
 
@@ -87,6 +88,23 @@ entry-from P t name more x e = named-from valueOf (λ n. entry n none) (λ n v. 
 pub topic-from : (P : Property → Type 0) (t : List Sign) → (isName (raws t) ≡ true → P (property (raws t) alone)) → (p : Property) → topicOf t ≡ some p → P p
 unfolding topicOf
 topic-from P t name p e = some-from P (isName (raws t)) (property (raws t) alone) name p e
+
+-- ---- segments
+
+pub segment-from : (P : Segment → Type 0) (s : List ℕ)
+    → (sameBytes s (bytes ".") ≡ true → P here)
+    → (sameBytes s (bytes "..") ≡ true → P above)
+    → (isNumbered s ≡ true → P (child (take (tagLen s) s) (valueFrom 0 (drop (tagLen s) s))))
+    → (isStarred s ≡ true → P (children (take (tagLen s) s)))
+    → (g : Segment) → segmentOf s ≡ some g → P g
+unfolding segmentOf
+segment-from P s dot dots number star g e = go (sameBytes s (bytes ".")) (sameBytes s (bytes "..")) (isNumbered s) refl refl refl
+  where
+    go : (x y z : Bool) → sameBytes s (bytes ".") ≡ x → sameBytes s (bytes "..") ≡ y → isNumbered s ≡ z → P g
+    go true y z p q r = some-from P true here (λ _. dot p) g (rw p at e)
+    go false true z p q r = some-from P true above (λ _. dots q) g (rw (p, q) at e)
+    go false false true p q r = some-from P true (child (take (tagLen s) s) (valueFrom 0 (drop (tagLen s) s))) (λ _. number r) g (rw (p, q, r) at e)
+    go false false false p q r = some-from P (isStarred s) (children (take (tagLen s) s)) star g (rw (p, q, r) at e)
 
 -- ---- targets: a session, the root, a path from the root, a path from the default target
 

@@ -18,7 +18,7 @@ use Rattle.text.proofs.Scans.{run-within, all-run, run-fails, take-run, drop-st
 use Rattle.terms.specs.declared.Mode.{Mode}
 use Rattle.terms.specs.declared.Mode.the-variants.{Out, OutGrave, In, InGrave}
 use Rattle.terms.specs.Signs.{Sign, bare, escaped, quote, quoted, quotedEscaped, isBare, twelve, after, gives, atEnd, signs, raw, raws, bares}
-use Rattle.terms.proofs.TermLaws.{raws-signs, raws-append, bare-signs, bares-signs, raws-bares, none-bares}
+use Rattle.terms.proofs.TermLaws.{raws-signs, raws-append, bare-signs, bares-signs, raws-bares, none-bares, bares-alone}
 use Rattle.terms.proofs.ByteCases.{out-case, grave-first}
 use Rattle.forms.specs.declared.Shape.{Shape}
 use Rattle.forms.specs.declared.Shape.the-variants as shape
@@ -125,8 +125,7 @@ pub words-read : (n v : List ℕ) → allOf isWord n ≡ true → signs Out (n +
 words-read = bares-signs isWord (unfold isWord in refl) (unfold isWord in refl)
 
 pub words-alone : (n : List ℕ) → allOf isWord n ≡ true → signs Out n ≡ bares n
-unfolding signs
-words-alone n e = ap (signs Out) (sym (append-nil n)) ∙ words-read n [] e ∙ append-nil (bares n)
+words-alone = bares-alone isWord (unfold isWord in refl) (unfold isWord in refl)
 
 none-bare : (s : List ℕ) → allOf isWord s ≡ true → anyOf (isBare 61) (bares s) ≡ false
 none-bare = none-bares isWord 61 (unfold isWord in refl)
@@ -350,13 +349,10 @@ module _ {P : Type 0} (t : List ℕ) where
 
 -- ---- each answer of the code; the text is the first n bytes of s
 
-shape-two : (o : Option Value) (m : List ℕ) (k : ℕ) → length m ≡ k → shapeIf (isSome o) k 2 ≡ shapeOf (given (given o (λ w. some (matches w))) (λ s. some (property m s)))
-shape-two none m k e = refl
-shape-two (some v) m k e = ap (λ (j : ℕ). shape.Is j 2) (sym e)
-
-shape-one : (o : Option Value) (m : List ℕ) (k : ℕ) → length m ≡ k → shapeIf (isSome o) k 1 ≡ shapeOf (given (given o (λ w. some (equals w))) (λ s. some (property m s)))
-shape-one none m k e = refl
-shape-one (some v) m k e = ap (λ (j : ℕ). shape.Is j 1) (sym e)
+shape-value : (make : Value → Said) (p : ℕ) → ((v : Value) → operatorOf (make v) ≡ p) → (o : Option Value) (m : List ℕ) (k : ℕ) → length m ≡ k
+    → shapeIf (isSome o) k p ≡ shapeOf (given (given o (λ w. some (make w))) (λ s. some (property m s)))
+shape-value make p op none m k e = refl
+shape-value make p op (some v) m k e = sym (ap (λ (j : ℕ). shape.Is j (operatorOf (make v))) e ∙ ap (shape.Is k) (op v))
 
 entry-value : (o : Option Value) (m : List ℕ) → isSome o ≡ isSome (given o (λ w. some (entry m (some w))))
 entry-value none m = refl
@@ -401,7 +397,7 @@ module _ (s : List ℕ) (n k : ℕ) (e : k ≡ nameLen (take n s)) where
       property-two r q u v =
           let t = take n s in
           let z : k + 1 + 1 ≡ k + 2 = omega arith in
-          ap (λ (b : Bool). shapeIf b k 2) (v ∙ value-part s n (k + 2)) ∙ shape-two (valueOf (signs Out (drop (k + 2) t))) (take k t) k name-length
+          ap (λ (b : Bool). shapeIf b k 2) (v ∙ value-part s n (k + 2)) ∙ shape-value matches 2 (λ v. refl) (valueOf (signs Out (drop (k + 2) t))) (take k t) k name-length
           ∙ sym (ap shapeOf (said-property t k (named t k e h) before (equal-there t k q .1)
           ∙ ap (λ o. given o (λ a. some (property (take k t) a))) (said-two t (k + 1) u ∙ ap (λ (j : ℕ). given (valueOf (signs Out (drop j t))) (λ w. some (matches w))) z)))
 
@@ -410,7 +406,7 @@ module _ (s : List ℕ) (n k : ℕ) (e : k ≡ nameLen (take n s)) where
       unfolding propertyIn
       property-one r q u v =
           let t = take n s in
-          ap (λ (b : Bool). shapeIf b k 1) (v ∙ value-part s n (k + 1)) ∙ shape-one (valueOf (signs Out (drop (k + 1) t))) (take k t) k name-length
+          ap (λ (b : Bool). shapeIf b k 1) (v ∙ value-part s n (k + 1)) ∙ shape-value equals 1 (λ v. refl) (valueOf (signs Out (drop (k + 1) t))) (take k t) k name-length
           ∙ sym (ap shapeOf (said-property t k (named t k e h) before (equal-there t k q .1) ∙ ap (λ o. given o (λ a. some (property (take k t) a))) (said-one t (k + 1) u)))
 
       pub entry-one : (r : Bool) → equalAt (take n s) k ≡ true → r ≡ isValueIn (take (length s - (k + 1)) (drop (k + 1) s)) (n - (k + 1)) → r ≡ isEntryIn s n

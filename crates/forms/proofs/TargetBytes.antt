@@ -18,7 +18,7 @@ use Rattle.terms.specs.declared.Mode.the-variants.{Out}
 use Rattle.terms.specs.Signs.{Sign, bare, after, gives, signs, bares}
 use Rattle.words.specs.Words.{sessionName}
 use Rattle.forms.specs.Targets.{isSeparator, tagLen, isTagLen, isNumbered, isStarred, isSegment, areSegments, Target, session, path, segmentsOf, pathOf, targetOf}
-use Rattle.terms.proofs.TermLaws.{bares-signs}
+use Rattle.terms.proofs.TermLaws.{bares-alone}
 use Rattle.forms.proofs.FormCases.{target-from}
 
 -- the bytes of a segment, and those of a path
@@ -111,8 +111,7 @@ target-bytes =
 
 -- the signs of such a text
 pub path-signs : (t : List ℕ) → allOf isPathByte t ≡ true → signs Out t ≡ bares t
-unfolding signs
-path-signs t e = ap (signs Out) (sym (append-nil t)) ∙ bares-signs isPathByte refl refl t [] e ∙ append-nil (bares t)
+path-signs = bares-alone isPathByte refl refl
 
 pub target-signs : (t : List ℕ) (x : Target) → targetOf t ≡ some x → signs Out t ≡ bares t
 target-signs t x e = path-signs t (target-bytes t x e)

@@ -49,51 +49,31 @@ module _ (t : List ℕ) (k o : ℕ) (e : shape.Is k o ≡ shapeOf (propertyOf (s
   some-same : (j : ℕ) (s : Said) → Named t j → propertyOf (signs Out t) ≡ some (property (take j t) s) → (j ≡ k) × (o ≡ operatorOf s)
   some-same j s n q = shape-same k o j (operatorOf s) (e ∙ ap shapeOf q ∙ ap (λ (i : ℕ). shape.Is i (operatorOf s)) (length-take-le j t (n .within)))
 
-  mere-told : o ≡ 0 → Mere t k
-  mere-told z =
+  -- by its operator
+  shape-case : {P : Type 0} → (Mere t k → o ≡ 0 → P) → (Saying t k 1 equals → o ≡ 1 → P) → (Saying t k 2 matches → o ≡ 2 → P) → P
+  shape-case mere one′ two =
       property-case t none-told
-      (λ j n l q. subst (λ (i : ℕ). Mere t i) (some-same j alone n q .0) (record { named = n; all = l; is = q }))
-      (λ j v n q. let w = some-same j (equals v) (n .named) q in absurd (omega (arith, w .1)))
-      (λ j v n q. let w = some-same j (matches v) (n .named) q in absurd (omega (arith, w .1)))
-
-  equals-told : o ≡ 1 → Saying t k 1 equals
-  equals-told z =
-      property-case t none-told
-      (λ j n l q. let w = some-same j alone n q in absurd (omega (arith, w .1)))
-      (λ j v n q. subst (λ (i : ℕ). Saying t i 1 equals) (some-same j (equals v) (n .named) q .0) (record { value = v; parts = n; is = q }))
-      (λ j v n q. let w = some-same j (matches v) (n .named) q in absurd (omega (arith, w .1)))
-
-  matches-told : o ≡ 2 → Saying t k 2 matches
-  matches-told z =
-      property-case t none-told
-      (λ j n l q. let w = some-same j alone n q in absurd (omega (arith, w .1)))
-      (λ j v n q. let w = some-same j (equals v) (n .named) q in absurd (omega (arith, w .1)))
-      (λ j v n q. subst (λ (i : ℕ). Saying t i 2 matches) (some-same j (matches v) (n .named) q .0) (record { value = v; parts = n; is = q }))
-
-  operator-told : o ≤ 2
-  operator-told =
-      property-case t none-told
-      (λ j n l q. let w = some-same j alone n q in omega (arith, w .1))
-      (λ j v n q. let w = some-same j (equals v) (n .named) q in omega (arith, w .1))
-      (λ j v n q. let w = some-same j (matches v) (n .named) q in omega (arith, w .1))
+      (λ j n l q. let w = some-same j alone n q in mere (subst (λ (i : ℕ). Mere t i) (w .0) (record { named = n; all = l; is = q })) (w .1))
+      (λ j v n q. let w = some-same j (equals v) (n .named) q in one′ (subst (λ (i : ℕ). Saying t i 1 equals) (w .0) (record { value = v; parts = n; is = q })) (w .1))
+      (λ j v n q. let w = some-same j (matches v) (n .named) q in two (subst (λ (i : ℕ). Saying t i 2 matches) (w .0) (record { value = v; parts = n; is = q })) (w .1))
 
 -- the same of an answer on the first n bytes of s
 module _ (s : List ℕ) (n k : ℕ) where
   pub told-mere : shape.Is k 0 ≡ propertyIn s n → Mere (take n s) k
   unfolding propertyIn
-  told-mere e = mere-told (take n s) k 0 e refl
+  told-mere e = shape-case (take n s) k 0 e (λ m z. m) (λ m z. absurd (omega arith)) (λ m z. absurd (omega arith))
 
   pub told-equals : shape.Is k 1 ≡ propertyIn s n → Saying (take n s) k 1 equals
   unfolding propertyIn
-  told-equals e = equals-told (take n s) k 1 e refl
+  told-equals e = shape-case (take n s) k 1 e (λ m z. absurd (omega arith)) (λ m z. m) (λ m z. absurd (omega arith))
 
   pub told-matches : shape.Is k 2 ≡ propertyIn s n → Saying (take n s) k 2 matches
   unfolding propertyIn
-  told-matches e = matches-told (take n s) k 2 e refl
+  told-matches e = shape-case (take n s) k 2 e (λ m z. absurd (omega arith)) (λ m z. absurd (omega arith)) (λ m z. m)
 
   pub told-operator : (o : ℕ) → shape.Is k o ≡ propertyIn s n → o ≤ 2
   unfolding propertyIn
-  told-operator o e = operator-told (take n s) k o e
+  told-operator o e = shape-case (take n s) k o e (λ m z. omega arith) (λ m z. omega arith) (λ m z. omega arith)
 
 pub told-none : (s : List ℕ) (n : ℕ) → shape.No ≡ propertyIn s n → propertyOf (signs Out (take n s)) ≡ none
 unfolding propertyIn

@@ -257,80 +257,60 @@ judged line = by (decLt 1024 (length line)) (decLt (runLen printable line) (leng
 
 -- ---- EACH ROW IS GIVEN EXACTLY WHEN IT HOLDS AND NO EARLIER ONE DOES
 
-clash : {P : Type 0} (n m q p : ℕ) → (n ≡ m → ⊥) → Flawed n q ≡ Flawed m p → P
-clash n m q p h e = absurd (h cc)
+clash : {P : Type 0} (n m : ℕ) {q p : ℕ} → eqb n m ≡ false → Flawed n q ≡ Flawed m p → P
+clash n m h e = absurd (eqb-false n m h cc)
 
-flawed-fine : {P : Type 0} (n p : ℕ) → Flawed n p ≡ Fine → P
-flawed-fine n p e = absurd (let z : _≡_ {A = ℕ} 0 1 = cc in omega arith)
+flawed-fine : {P : Type 0} {n p : ℕ} → Flawed n p ≡ Fine → P
+flawed-fine e = absurd (let z : _≡_ {A = ℕ} 0 1 = cc in omega arith)
 
-same-place : (n q p : ℕ) → Flawed n q ≡ Flawed n p → q ≡ p
-same-place n q p e = cc
+same-place : (n : ℕ) {q p : ℕ} → Flawed n q ≡ Flawed n p → q ≡ p
+same-place n e = cc
+
+-- what is given is the verdict of the row that holds
+given-by : {P : Type 0} (line : List ℕ) {v : Verdict} → lexicalOf line ≡ v
+    → (Row1 line 1024 → Flawed 1 1024 ≡ v → P)
+    → (Row2 line (runLen printable line) → Flawed 2 (runLen printable line) ≡ v → P)
+    → (Row3 line (length line - 1) → Flawed 3 (length line - 1) ≡ v → P)
+    → (Row4 line (lastMark 0 0 (lineSigns line)) → Flawed 4 (lastMark 0 0 (lineSigns line)) ≡ v → P)
+    → (Row5 line (startOf 64 (termsOf line)) → Flawed 5 (startOf 64 (termsOf line)) ≡ v → P)
+    → (NoRow line → Fine ≡ v → P) → P
+given-by {P = P} line {v = v} e one two′ three four five fine = go (judged line)
+  where
+    go : Case line → P
+    go (is1 r) = one r (sym (give-1 line 1024 r) ∙ e)
+    go (is2 r) = two′ r (sym (give-2 line (runLen printable line) r) ∙ e)
+    go (is3 r) = three r (sym (give-3 line (length line - 1) r) ∙ e)
+    go (is4 r) = four r (sym (give-4 line (lastMark 0 0 (lineSigns line)) r) ∙ e)
+    go (is5 r) = five r (sym (give-5 line (startOf 64 (termsOf line)) r) ∙ e)
+    go (isFine r) = fine r (sym (give-fine line r) ∙ e)
 
 only-1 : (line : List ℕ) (p : ℕ) → lexicalOf line ≡ Flawed 1 p → Row1 line p
-only-1 line p e = go (judged line)
-  where
-    go : Case line → Row1 line p
-    go (is1 r) = subst (λ (q : ℕ). Row1 line q) (same-place 1 1024 p (sym (give-1 line 1024 r) ∙ e)) r
-    go (is2 r) = clash 2 1 (runLen printable line) p (λ z. omega arith) (sym (give-2 line (runLen printable line) r) ∙ e)
-    go (is3 r) = clash 3 1 (length line - 1) p (λ z. omega arith) (sym (give-3 line (length line - 1) r) ∙ e)
-    go (is4 r) = clash 4 1 (lastMark 0 0 (lineSigns line)) p (λ z. omega arith) (sym (give-4 line (lastMark 0 0 (lineSigns line)) r) ∙ e)
-    go (is5 r) = clash 5 1 (startOf 64 (termsOf line)) p (λ z. omega arith) (sym (give-5 line (startOf 64 (termsOf line)) r) ∙ e)
-    go (isFine r) = flawed-fine 1 p (sym (sym (give-fine line r) ∙ e))
+only-1 line p e =
+    given-by line e (λ r z. subst (Row1 line) (same-place 1 z) r) (λ r z. clash 2 1 refl z) (λ r z. clash 3 1 refl z) (λ r z. clash 4 1 refl z) (λ r z. clash 5 1 refl z)
+    (λ r z. flawed-fine (sym z))
 
 only-2 : (line : List ℕ) (p : ℕ) → lexicalOf line ≡ Flawed 2 p → Row2 line p
-only-2 line p e = go (judged line)
-  where
-    go : Case line → Row2 line p
-    go (is1 r) = clash 1 2 1024 p (λ z. omega arith) (sym (give-1 line 1024 r) ∙ e)
-    go (is2 r) = subst (λ (q : ℕ). Row2 line q) (same-place 2 (runLen printable line) p (sym (give-2 line (runLen printable line) r) ∙ e)) r
-    go (is3 r) = clash 3 2 (length line - 1) p (λ z. omega arith) (sym (give-3 line (length line - 1) r) ∙ e)
-    go (is4 r) = clash 4 2 (lastMark 0 0 (lineSigns line)) p (λ z. omega arith) (sym (give-4 line (lastMark 0 0 (lineSigns line)) r) ∙ e)
-    go (is5 r) = clash 5 2 (startOf 64 (termsOf line)) p (λ z. omega arith) (sym (give-5 line (startOf 64 (termsOf line)) r) ∙ e)
-    go (isFine r) = flawed-fine 2 p (sym (sym (give-fine line r) ∙ e))
+only-2 line p e =
+    given-by line e (λ r z. clash 1 2 refl z) (λ r z. subst (Row2 line) (same-place 2 z) r) (λ r z. clash 3 2 refl z) (λ r z. clash 4 2 refl z) (λ r z. clash 5 2 refl z)
+    (λ r z. flawed-fine (sym z))
 
 only-3 : (line : List ℕ) (p : ℕ) → lexicalOf line ≡ Flawed 3 p → Row3 line p
-only-3 line p e = go (judged line)
-  where
-    go : Case line → Row3 line p
-    go (is1 r) = clash 1 3 1024 p (λ z. omega arith) (sym (give-1 line 1024 r) ∙ e)
-    go (is2 r) = clash 2 3 (runLen printable line) p (λ z. omega arith) (sym (give-2 line (runLen printable line) r) ∙ e)
-    go (is3 r) = subst (λ (q : ℕ). Row3 line q) (same-place 3 (length line - 1) p (sym (give-3 line (length line - 1) r) ∙ e)) r
-    go (is4 r) = clash 4 3 (lastMark 0 0 (lineSigns line)) p (λ z. omega arith) (sym (give-4 line (lastMark 0 0 (lineSigns line)) r) ∙ e)
-    go (is5 r) = clash 5 3 (startOf 64 (termsOf line)) p (λ z. omega arith) (sym (give-5 line (startOf 64 (termsOf line)) r) ∙ e)
-    go (isFine r) = flawed-fine 3 p (sym (sym (give-fine line r) ∙ e))
+only-3 line p e =
+    given-by line e (λ r z. clash 1 3 refl z) (λ r z. clash 2 3 refl z) (λ r z. subst (Row3 line) (same-place 3 z) r) (λ r z. clash 4 3 refl z) (λ r z. clash 5 3 refl z)
+    (λ r z. flawed-fine (sym z))
 
 only-4 : (line : List ℕ) (p : ℕ) → lexicalOf line ≡ Flawed 4 p → Row4 line p
-only-4 line p e = go (judged line)
-  where
-    go : Case line → Row4 line p
-    go (is1 r) = clash 1 4 1024 p (λ z. omega arith) (sym (give-1 line 1024 r) ∙ e)
-    go (is2 r) = clash 2 4 (runLen printable line) p (λ z. omega arith) (sym (give-2 line (runLen printable line) r) ∙ e)
-    go (is3 r) = clash 3 4 (length line - 1) p (λ z. omega arith) (sym (give-3 line (length line - 1) r) ∙ e)
-    go (is4 r) = subst (λ (q : ℕ). Row4 line q) (same-place 4 (lastMark 0 0 (lineSigns line)) p (sym (give-4 line (lastMark 0 0 (lineSigns line)) r) ∙ e)) r
-    go (is5 r) = clash 5 4 (startOf 64 (termsOf line)) p (λ z. omega arith) (sym (give-5 line (startOf 64 (termsOf line)) r) ∙ e)
-    go (isFine r) = flawed-fine 4 p (sym (sym (give-fine line r) ∙ e))
+only-4 line p e =
+    given-by line e (λ r z. clash 1 4 refl z) (λ r z. clash 2 4 refl z) (λ r z. clash 3 4 refl z) (λ r z. subst (Row4 line) (same-place 4 z) r) (λ r z. clash 5 4 refl z)
+    (λ r z. flawed-fine (sym z))
 
 only-5 : (line : List ℕ) (p : ℕ) → lexicalOf line ≡ Flawed 5 p → Row5 line p
-only-5 line p e = go (judged line)
-  where
-    go : Case line → Row5 line p
-    go (is1 r) = clash 1 5 1024 p (λ z. omega arith) (sym (give-1 line 1024 r) ∙ e)
-    go (is2 r) = clash 2 5 (runLen printable line) p (λ z. omega arith) (sym (give-2 line (runLen printable line) r) ∙ e)
-    go (is3 r) = clash 3 5 (length line - 1) p (λ z. omega arith) (sym (give-3 line (length line - 1) r) ∙ e)
-    go (is4 r) = clash 4 5 (lastMark 0 0 (lineSigns line)) p (λ z. omega arith) (sym (give-4 line (lastMark 0 0 (lineSigns line)) r) ∙ e)
-    go (is5 r) = subst (λ (q : ℕ). Row5 line q) (same-place 5 (startOf 64 (termsOf line)) p (sym (give-5 line (startOf 64 (termsOf line)) r) ∙ e)) r
-    go (isFine r) = flawed-fine 5 p (sym (sym (give-fine line r) ∙ e))
+only-5 line p e =
+    given-by line e (λ r z. clash 1 5 refl z) (λ r z. clash 2 5 refl z) (λ r z. clash 3 5 refl z) (λ r z. clash 4 5 refl z) (λ r z. subst (Row5 line) (same-place 5 z) r)
+    (λ r z. flawed-fine (sym z))
 
 only-fine : (line : List ℕ) → lexicalOf line ≡ Fine → NoRow line
-only-fine line e = go (judged line)
-  where
-    go : Case line → NoRow line
-    go (is1 r) = flawed-fine 1 1024 (sym (give-1 line 1024 r) ∙ e)
-    go (is2 r) = flawed-fine 2 (runLen printable line) (sym (give-2 line (runLen printable line) r) ∙ e)
-    go (is3 r) = flawed-fine 3 (length line - 1) (sym (give-3 line (length line - 1) r) ∙ e)
-    go (is4 r) = flawed-fine 4 (lastMark 0 0 (lineSigns line)) (sym (give-4 line (lastMark 0 0 (lineSigns line)) r) ∙ e)
-    go (is5 r) = flawed-fine 5 (startOf 64 (termsOf line)) (sym (give-5 line (startOf 64 (termsOf line)) r) ∙ e)
-    go (isFine r) = r
+only-fine line e = given-by line e (λ r z. flawed-fine z) (λ r z. flawed-fine z) (λ r z. flawed-fine z) (λ r z. flawed-fine z) (λ r z. flawed-fine z) (λ r z. r)
 
 pub row-1 : (line : List ℕ) (p : ℕ) → (Row1 line p → lexicalOf line ≡ Flawed 1 p) × (lexicalOf line ≡ Flawed 1 p → Row1 line p)
 row-1 line p = (give-1 line p, only-1 line p)

@@ -14,7 +14,7 @@ use Rattle.text.specs.Lists.{anyOf, upTo, runLen, walk, allOf, past}
 use Rattle.text.proofs.Basics.{and-l, and-r, or-l, or-r, no-case, up-over, any-split}
 use Rattle.text.proofs.Classes.{other-byte}
 use Rattle.text.proofs.Slices.{length-between}
-use Rattle.text.proofs.Scans.{drop-step}
+use Rattle.text.proofs.Scans.{drop-step, scan-within}
 use Rattle.terms.specs.declared.Mode.{Mode}
 use Rattle.terms.specs.declared.Mode.the-variants.{Out, OutGrave, In, InGrave}
 use Rattle.terms.specs.declared.Found.{Found}
@@ -282,6 +282,10 @@ bares-signs f g q (b ∷ s) v e =
     let p = and-l (f b) (allOf f s) e in
     bare-signs b (s ++ v) (other-byte f 96 b true g p) (other-byte f 34 b true q p) ∙ ap (λ (z : List Sign). bare b ∷ z) (bares-signs f g q s v (and-r (f b) (allOf f s) e))
 
+pub bares-alone : (f : ℕ → Bool) → f 96 ≡ false → f 34 ≡ false → (s : List ℕ) → allOf f s ≡ true → signs Out s ≡ bares s
+unfolding signs
+bares-alone f g q s e = ap (signs Out) (sym (append-nil s)) ∙ bares-signs f g q s [] e ∙ append-nil (bares s)
+
 pub raws-bares : (s : List ℕ) → raws (bares s) ≡ s
 unfolding raws
 raws-bares [] = refl
@@ -367,12 +371,7 @@ meant-length s = let h = raws-length (signs Out s) .1 in let e = ap length (raws
 
 pub term-short : (m : Mode) (s : List ℕ) → termLen m s ≤ length s
 unfolding termLen
-term-short m [] = omega arith
-term-short m (b ∷ s) = go (gapByte m b) (term-short (after m b) s)
-  where
-    go : (x : Bool) → termLen (after m b) s ≤ length s → cond x 0 (suc (termLen (after m b) s)) ≤ suc (length s)
-    go true h = omega arith
-    go false h = omega arith
+term-short = scan-within gapByte after termLen (λ m. refl) (λ m b s. refl)
 
 -- at or after the place asked for, not empty, inside the line
 pub record Within (l : List ℕ) (at a n : ℕ) : Type 0 where

@@ -123,6 +123,16 @@ module _ {S : Type 0} (f : S → ℕ → S) (l : List ℕ) (i : ℕ) (v : S) whe
   unfolding walk
   walk-past h = rw (drop-of-length-le l h)
 
+-- a scan that counts bytes until it stops counts no more than there are: v is its state, len what it counts
+pub scan-within : {S : Type 0} (stop : S → ℕ → Bool) (next : S → ℕ → S) (len : S → List ℕ → ℕ) → ((v : S) → len v [] ≡ 0)
+    → ((v : S) (b : ℕ) (s : List ℕ) → len v (b ∷ s) ≡ cond (stop v b) 0 (suc (len (next v b) s))) → (v : S) (s : List ℕ) → len v s ≤ length s
+scan-within stop next len nil more v [] = omega (arith, nil v)
+scan-within stop next len nil more v (b ∷ s) = go (stop v b) refl (scan-within stop next len nil more (next v b) s)
+  where
+    go : (x : Bool) → stop v b ≡ x → len (next v b) s ≤ length s → len v (b ∷ s) ≤ suc (length s)
+    go true e h = omega (arith, more v b s ∙ ap (λ (t : Bool). cond t 0 (suc (len (next v b) s))) e)
+    go false e h = omega (arith, more v b s ∙ ap (λ (t : Bool). cond t 0 (suc (len (next v b) s))) e)
+
 -- a test of all, or of any, from a place on; d is any default
 module _ {A : Type 0} (f : A → Bool) (l : List A) (i : ℕ) (d : A) where
   pub all-on : i < length l → f (getD l i d) ≡ true → allOf f (drop i l) ≡ allOf f (drop (i + 1) l)

@@ -1,5 +1,5 @@
 -- From segment to segment: what each piece of a path leads to. Assumes nothing.
-use mathlib.Core.Path.{_≡_, refl, ap, sym, _∙_}
+use mathlib.Core.Path.{_≡_, refl, ap, sym, _∙_, subst}
 use Prim.Native.Nat.{ℕ, zero, suc, _+_, _-_, _<_, _≤_}
 use native.Mathlib.Omega.{arith}
 use mathlib.Core.List.{List, [], _∷_}
@@ -22,6 +22,7 @@ use Rattle.forms.proofs.SegmentLaws.{segment-text, segment-within, parts-last, 
 use Rattle.tree.specs.Tree.{records, parent}
 use Rattle.tree.specs.Resolve.{nodesFrom, isNamed, namedUnder, Found, nodes, refused, orNone, stepBy, along}
 use Rattle.tree.specs.Steps.{firstOf, segmentsFrom, alongFrom, starred}
+use Rattle.forms.proofs.FormCases.{segment-from}
 
 -- ---- a segment, and those after it
 
@@ -50,68 +51,31 @@ module _ (text t : List ℕ) (n at : ℕ) where
 
 -- ---- what a piece says of its segment
 
-module _ (l : ℕ) where
-  is-here : (o : Option Segment) (len : ℕ) → pieceOf l o ≡ piece.Here len → (o ≡ some here) × (len ≡ l)
-  is-here none len e = absurd (let z : _≡_ {A = ℕ} 0 1 = cc in omega arith)
-  is-here (some here) len e = (refl, cc)
-  is-here (some above) len e = absurd (let z : _≡_ {A = ℕ} 0 1 = cc in omega arith)
-  is-here (some (child a i)) len e = absurd (let z : _≡_ {A = ℕ} 0 1 = cc in omega arith)
-  is-here (some (children a)) len e = absurd (let z : _≡_ {A = ℕ} 0 1 = cc in omega arith)
+Says : ℕ → Option Segment → Piece → Type 0
+Says l o (piece.Here len) = (o ≡ some here) × (len ≡ l)
+Says l o (piece.Above len) = (o ≡ some above) × (len ≡ l)
+Says l o (piece.Child len tag i) = (a : List ℕ) × (o ≡ some (child a i)) × (len ≡ l) × (tag ≡ length a)
+Says l o (piece.Children len tag) = (a : List ℕ) × (o ≡ some (children a)) × (len ≡ l) × (tag ≡ length a)
+Says l o piece.No = o ≡ none
 
-  is-above : (o : Option Segment) (len : ℕ) → pieceOf l o ≡ piece.Above len → (o ≡ some above) × (len ≡ l)
-  is-above none len e = absurd (let z : _≡_ {A = ℕ} 0 1 = cc in omega arith)
-  is-above (some here) len e = absurd (let z : _≡_ {A = ℕ} 0 1 = cc in omega arith)
-  is-above (some above) len e = (refl, cc)
-  is-above (some (child a i)) len e = absurd (let z : _≡_ {A = ℕ} 0 1 = cc in omega arith)
-  is-above (some (children a)) len e = absurd (let z : _≡_ {A = ℕ} 0 1 = cc in omega arith)
-
-  is-child : (o : Option Segment) (len tag i : ℕ) → pieceOf l o ≡ piece.Child len tag i → (a : List ℕ) × (o ≡ some (child a i)) × (len ≡ l) × (tag ≡ length a)
-  is-child none len tag i e = absurd (let z : _≡_ {A = ℕ} 0 1 = cc in omega arith)
-  is-child (some here) len tag i e = absurd (let z : _≡_ {A = ℕ} 0 1 = cc in omega arith)
-  is-child (some above) len tag i e = absurd (let z : _≡_ {A = ℕ} 0 1 = cc in omega arith)
-  is-child (some (child a j)) len tag i e = let z : j ≡ i = cc in (a, ap (λ (x : ℕ). some (child a x)) z, cc, cc)
-  is-child (some (children a)) len tag i e = absurd (let z : _≡_ {A = ℕ} 0 1 = cc in omega arith)
-
-  is-children : (o : Option Segment) (len tag : ℕ) → pieceOf l o ≡ piece.Children len tag → (a : List ℕ) × (o ≡ some (children a)) × (len ≡ l) × (tag ≡ length a)
-  is-children none len tag e = absurd (let z : _≡_ {A = ℕ} 0 1 = cc in omega arith)
-  is-children (some here) len tag e = absurd (let z : _≡_ {A = ℕ} 0 1 = cc in omega arith)
-  is-children (some above) len tag e = absurd (let z : _≡_ {A = ℕ} 0 1 = cc in omega arith)
-  is-children (some (child a j)) len tag e = absurd (let z : _≡_ {A = ℕ} 0 1 = cc in omega arith)
-  is-children (some (children a)) len tag e = (a, refl, cc, cc)
-
-  is-none : (o : Option Segment) → pieceOf l o ≡ piece.No → o ≡ none
-  is-none none e = refl
-  is-none (some here) e = absurd (let z : _≡_ {A = ℕ} 0 1 = cc in omega arith)
-  is-none (some above) e = absurd (let z : _≡_ {A = ℕ} 0 1 = cc in omega arith)
-  is-none (some (child a j)) e = absurd (let z : _≡_ {A = ℕ} 0 1 = cc in omega arith)
-  is-none (some (children a)) e = absurd (let z : _≡_ {A = ℕ} 0 1 = cc in omega arith)
+piece-says : (l : ℕ) (o : Option Segment) → Says l o (pieceOf l o)
+unfolding Says
+piece-says l none = refl
+piece-says l (some here) = (refl, refl)
+piece-says l (some above) = (refl, refl)
+piece-says l (some (child a i)) = (a, refl, refl, refl)
+piece-says l (some (children a)) = (a, refl, refl, refl)
 
 -- the tag of a segment is its letters
-tag-of : (s a : List ℕ) (i : ℕ) → segmentOf s ≡ some (child a i) → a ≡ take (tagLen s) s
-unfolding segmentOf
-tag-of s a i e = go (sameBytes s (bytes ".")) (sameBytes s (bytes "..")) (isNumbered s) (isStarred s) e
-  where
-    go : (w x y z : Bool)
-        → cond w (some here) (cond x (some above) (cond y (some (child (take (tagLen s) s) (valueFrom 0 (drop (tagLen s) s)))) (cond z (some (children (take (tagLen s) s))) none))) ≡ some (child a i)
-        → a ≡ take (tagLen s) s
-    go true x y z q = absurd (let c : _≡_ {A = ℕ} 0 1 = cc in omega arith)
-    go false true y z q = absurd (let c : _≡_ {A = ℕ} 0 1 = cc in omega arith)
-    go false false true z q = cc
-    go false false false true q = absurd (let c : _≡_ {A = ℕ} 0 1 = cc in omega arith)
-    go false false false false q = absurd (let c : _≡_ {A = ℕ} 0 1 = cc in omega arith)
+tagged : Segment → List ℕ → Type 0
+tagged here t = t ≡ t
+tagged above t = t ≡ t
+tagged (child a i) t = a ≡ t
+tagged (children a) t = a ≡ t
 
-tag-of-star : (s a : List ℕ) → segmentOf s ≡ some (children a) → a ≡ take (tagLen s) s
-unfolding segmentOf
-tag-of-star s a e = go (sameBytes s (bytes ".")) (sameBytes s (bytes "..")) (isNumbered s) (isStarred s) e
-  where
-    go : (w x y z : Bool)
-        → cond w (some here) (cond x (some above) (cond y (some (child (take (tagLen s) s) (valueFrom 0 (drop (tagLen s) s)))) (cond z (some (children (take (tagLen s) s))) none))) ≡ some (children a)
-        → a ≡ take (tagLen s) s
-    go true x y z q = absurd (let c : _≡_ {A = ℕ} 0 1 = cc in omega arith)
-    go false true y z q = absurd (let c : _≡_ {A = ℕ} 0 1 = cc in omega arith)
-    go false false true z q = absurd (let c : _≡_ {A = ℕ} 0 1 = cc in omega arith)
-    go false false false true q = cc
-    go false false false false q = absurd (let c : _≡_ {A = ℕ} 0 1 = cc in omega arith)
+tag-of : (s : List ℕ) (g : Segment) → segmentOf s ≡ some g → tagged g (take (tagLen s) s)
+unfolding tagged
+tag-of s = segment-from (λ g. tagged g (take (tagLen s) s)) s (λ _. refl) (λ _. refl) (λ _. refl) (λ _. refl)
 
 -- it stands in the text at the segment's place
 tag-in : (text a : List ℕ) (at tag : ℕ) → a ≡ take (tagLen (segmentText text at)) (segmentText text at) → tag ≡ length a
@@ -154,31 +118,38 @@ the-first at (x ∷ l) f m e z = ap f (sym e)
 -- ---- each piece
 
 module _ (text : List ℕ) (at : ℕ) (p : Piece) (h : at ≤ length text) (r : p ≡ segmentAt text at) where
-  said : pieceOf (length (segmentText text at)) (segmentOf (segmentText text at)) ≡ p
+  said : Says (length (segmentText text at)) (segmentOf (segmentText text at)) p
   unfolding segmentAt
-  said = sym r
+  said = subst (Says (length (segmentText text at)) (segmentOf (segmentText text at))) (sym r) (piece-says (length (segmentText text at)) (segmentOf (segmentText text at)))
+
+  said-as : (q : Piece) → p ≡ q → Says (length (segmentText text at)) (segmentOf (segmentText text at)) q
+  said-as q e = subst (Says (length (segmentText text at)) (segmentOf (segmentText text at))) e said
 
   is-here-at : (len : ℕ) → p ≡ piece.Here len → (segmentOf (segmentText text at) ≡ some here) × (len ≡ length (segmentText text at))
-  is-here-at len q = is-here (length (segmentText text at)) (segmentOf (segmentText text at)) len (said ∙ q)
+  unfolding Says
+  is-here-at len q = said-as (piece.Here len) q
 
   is-above-at : (len : ℕ) → p ≡ piece.Above len → (segmentOf (segmentText text at) ≡ some above) × (len ≡ length (segmentText text at))
-  is-above-at len q = is-above (length (segmentText text at)) (segmentOf (segmentText text at)) len (said ∙ q)
+  unfolding Says
+  is-above-at len q = said-as (piece.Above len) q
 
   -- a child's tag stands at the segment's place
   is-child-at : (len tag i : ℕ) → p ≡ piece.Child len tag i
       → (segmentOf (segmentText text at) ≡ some (child (take tag (drop at text)) i)) × (len ≡ length (segmentText text at)) × (tag ≤ len)
+  unfolding Says tagged
   is-child-at len tag i q =
-      let c = is-child (length (segmentText text at)) (segmentOf (segmentText text at)) len tag i (said ∙ q) in
-      let g = tag-in text (c .0) at tag (tag-of (segmentText text at) (c .0) i (c .1)) (c .3) in
+      let c = said-as (piece.Child len tag i) q in
+      let g = tag-in text (c .0) at tag (tag-of (segmentText text at) (child (c .0) i) (c .1)) (c .3) in
       let l = g .1 in
       let e = c .2 in
       (c .1 ∙ ap (λ (a : List ℕ). some (child a i)) (sym (g .0)), e, omega arith)
 
   is-star-at : (len tag : ℕ) → p ≡ piece.Children len tag
       → (segmentOf (segmentText text at) ≡ some (children (take tag (drop at text)))) × (len ≡ length (segmentText text at)) × (tag ≤ len)
+  unfolding Says tagged
   is-star-at len tag q =
-      let c = is-children (length (segmentText text at)) (segmentOf (segmentText text at)) len tag (said ∙ q) in
-      let g = tag-in text (c .0) at tag (tag-of-star (segmentText text at) (c .0) (c .1)) (c .3) in
+      let c = said-as (piece.Children len tag) q in
+      let g = tag-in text (c .0) at tag (tag-of (segmentText text at) (children (c .0)) (c .1)) (c .3) in
       let l = g .1 in
       let e = c .2 in
       (c .1 ∙ ap (λ (a : List ℕ). some (children a)) (sym (g .0)), e, omega arith)
@@ -244,4 +215,5 @@ module _ (text : List ℕ) (at : ℕ) (p : Piece) (h : at ≤ length text) (r : 
     follow-star len tag q = let w = is-star-at len tag q in sym (by (some (children (take tag (drop at text)))) len (w .0) (w .1))
 
     pub follow-no : p ≡ piece.No → refused 12 0 ≡ alongFrom text t n at
-    follow-no q = sym (by none (length (segmentText text at)) (is-none (length (segmentText text at)) (segmentOf (segmentText text at)) (said ∙ q)) refl)
+    unfolding Says
+    follow-no q = sym (by none (length (segmentText text at)) (said-as piece.No q) refl)

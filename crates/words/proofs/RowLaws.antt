@@ -201,9 +201,12 @@ kind-rest (suc (suc (suc (suc (suc n))))) a b c d = refl
 
 -- ---- names by number
 
--- the name in a row of a table whose names are those
-table-name : (rows ns : List (List ℕ)) → map rowName rows ≡ ns → (i : ℕ) → rowName (getD rows i []) ≡ getD ns i []
-table-name rows ns right i = sym (List·getD-map rowName rows i []) ∙ ap (λ l. getD l i []) right
+-- the name in the row of a number, in a table whose names are those
+row-name : (rows ns : List (List ℕ)) → map rowName rows ≡ ns → (n : ℕ) → (n ≡ 0 → ⊥) → rowName (getD rows (n - 1) []) ≡ getD ([] ∷ ns) n []
+row-name rows ns right zero h = absurd (h refl)
+row-name rows ns right (suc i) h =
+    let e : suc i - 1 ≡ i = omega arith in
+    ap (λ k. rowName (getD rows k [])) e ∙ sym (List·getD-map rowName rows i []) ∙ ap (λ l. getD l i []) right
 
 -- a row's first byte is how long its name is
 pub row-length : (row : List ℕ) → getD row 0 0 < length row → getD row 0 0 ≡ length (rowName row)
@@ -236,8 +239,7 @@ verb-fits i h =
 
 pub verb-name : (n : ℕ) → (n ≡ 0 → ⊥) → rowName (getD verbRows (n - 1) []) ≡ verbName n
 unfolding verbName
-verb-name zero h = absurd (h refl)
-verb-name (suc i) h = let e : suc i - 1 ≡ i = omega arith in ap (λ k. rowName (getD verbRows k [])) e ∙ table-name verbRows verbNames verbs-right i
+verb-name = row-name verbRows verbNames verbs-right
 
 pub verb-none : verbName 0 ≡ []
 unfolding verbName
@@ -256,8 +258,7 @@ option-fits i h = let r = row-fits i h in (omega (arith, r .0, r .2), omega (ari
 
 pub option-name : (n : ℕ) → (n ≡ 0 → ⊥) → rowName (getD optionRows (n - 1) []) ≡ optionName n
 unfolding optionName
-option-name zero h = absurd (h refl)
-option-name (suc i) h = let e : suc i - 1 ≡ i = omega arith in ap (λ k. rowName (getD optionRows k [])) e ∙ table-name optionRows longNames options-right i
+option-name = row-name optionRows longNames options-right
 
 pub option-none : optionName 0 ≡ []
 unfolding optionName

@@ -112,6 +112,24 @@ shorts-many : length shortNames ≡ 12
 unfolding shortNames
 shorts-many = refl
 
+-- a table of names, numbered from 1
+module _ (ns : List (List ℕ)) where
+  -- a rule that a test finds in all of them holds of the name at a number
+  number-passes : (f : List ℕ → Bool) → allOf f ns ≡ true → (k : ℕ) → 1 ≤ k → k ≤ length ns → f (getD ([] ∷ ns) k []) ≡ true
+  number-passes f e zero a b = absurd (omega arith)
+  number-passes f e (suc i) a b = all-at f ns [] e i (omega arith)
+
+  -- the name at a number is found at it, and what is found is the name at its number
+  number-again : distinct ns ≡ true → (k : ℕ) → isNil (getD ([] ∷ ns) k []) ≡ false → find 1 ns (getD ([] ∷ ns) k []) ≡ some k
+  number-again d zero h = no-case h
+  number-again d (suc i) h = let e : 1 + i ≡ suc i = omega arith in find-again 1 ns d i h ∙ ap some e
+
+  number-name : (s : List ℕ) (k : ℕ) → find 1 ns s ≡ some k → (1 ≤ k) × (k ≤ length ns) × (s ≡ getD ([] ∷ ns) k []) × (isNil s ≡ false)
+  number-name s k e =
+      let f = find-name 1 ns s k e in
+      let z : suc (k - 1) ≡ k = omega (arith, f .0) in
+      (f .0, omega (arith, f .1), f .2 ∙ ap (λ (j : ℕ). getD ([] ∷ ns) j []) z, f .3)
+
 -- whichever number: a table's name is no longer than its longest
 short-name : (most : ℕ) (ns : List (List ℕ)) (n : ℕ) → allOf (λ x. leb (length x) most) ns ≡ true → length (getD ns n []) ≤ most
 unfolding allOf
@@ -121,15 +139,11 @@ short-name most (x ∷ ns) (suc n) h = short-name most ns n (and-r (leb (length 
 
 -- ---- verbs
 
-verb-at : (i : ℕ) → verbName (suc i) ≡ getD verbNames i []
-unfolding verbName
-verb-at i = refl
-
 -- the names are not empty, of lower case letters, and at most 7 bytes long
 pub verb-shape : (k : ℕ) → 1 ≤ k → k ≤ 13
     → (isNil (verbName k) ≡ false) × (allOf isLower (verbName k) ≡ true) × (allOf isWord (verbName k) ≡ true) × (length (verbName k) ≤ 7)
-verb-shape zero a b = absurd (omega arith)
-verb-shape (suc i) a b = shape-says 7 (verbName (suc i)) (ap (shape 7) (verb-at i) ∙ all-at (shape 7) verbNames [] verbs-shape i (omega (arith, verbs-many)))
+unfolding verbName
+verb-shape k a b = shape-says 7 (verbName k) (number-passes verbNames (shape 7) verbs-shape k a (omega (arith, verbs-many)))
 
 pub verb-short : (n : ℕ) → length (verbName n) ≤ 7
 unfolding verbName verbNames bytes allOf
@@ -137,20 +151,13 @@ verb-short n = short-name 7 ([] ∷ verbNames) n refl
 
 -- the name at k is recognised as k
 pub verb-again : (k : ℕ) → 1 ≤ k → k ≤ 13 → verbOf (verbName k) ≡ some k
-unfolding verbOf
-verb-again zero a b = absurd (omega arith)
-verb-again (suc i) a b =
-    let e : 1 + i ≡ suc i = omega arith in
-    let h = sym (ap isNil (verb-at i)) ∙ verb-shape (suc i) a b .0 in
-    ap (find 1 verbNames) (verb-at i) ∙ find-again 1 verbNames verbs-distinct i h ∙ ap some e
+unfolding verbOf verbName
+verb-again k a b = number-again verbNames verbs-distinct k (verb-shape k a b .0)
 
 -- and nothing else is
 pub verb-only-name : (s : List ℕ) (k : ℕ) → verbOf s ≡ some k → (1 ≤ k) × (k ≤ 13) × (s ≡ verbName k)
-unfolding verbOf
-verb-only-name s k e =
-    let f = find-name 1 verbNames s k e in
-    let z : suc (k - 1) ≡ k = omega (arith, f .0) in
-    (f .0, omega (arith, f .1, verbs-many), f .2 ∙ sym (verb-at (k - 1)) ∙ ap verbName z)
+unfolding verbOf verbName
+verb-only-name s k e = let f = number-name verbNames s k e in (f .0, omega (arith, f .1, verbs-many), f .2)
 
 -- two numbers have two names
 pub verb-names-differ : (j k : ℕ) → 1 ≤ j → j ≤ 13 → 1 ≤ k → k ≤ 13 → verbName j ≡ verbName k → j ≡ k
@@ -165,20 +172,11 @@ verb-forms t k a b =
 
 -- ---- options
 
-option-at : (i : ℕ) → optionName (suc i) ≡ getD longNames i []
-unfolding optionName
-option-at i = refl
-
-short-at : (i : ℕ) → shortName (suc i) ≡ getD shortNames i []
-unfolding shortName
-short-at i = refl
-
 -- the long names are not empty, of lower case letters, and at most 11 bytes long
 pub option-shape : (k : ℕ) → 1 ≤ k → k ≤ 12
     → (isNil (optionName k) ≡ false) × (allOf isLower (optionName k) ≡ true) × (allOf isWord (optionName k) ≡ true) × (length (optionName k) ≤ 11)
-option-shape zero a b = absurd (omega arith)
-option-shape (suc i) a b =
-    shape-says 11 (optionName (suc i)) (ap (shape 11) (option-at i) ∙ all-at (shape 11) longNames [] longs-shape i (omega (arith, longs-many)))
+unfolding optionName
+option-shape k a b = shape-says 11 (optionName k) (number-passes longNames (shape 11) longs-shape k a (omega (arith, longs-many)))
 
 pub option-short : (n : ℕ) → length (optionName n) ≤ 11
 unfolding optionName longNames bytes allOf
@@ -186,13 +184,8 @@ option-short n = short-name 11 ([] ∷ longNames) n refl
 
 -- the long name at k is recognised as k
 pub option-again : (k : ℕ) → 1 ≤ k → k ≤ 12 → optionOf (optionName k) ≡ some k
-unfolding optionOf
-option-again zero a b = absurd (omega arith)
-option-again (suc i) a b =
-    let e : 1 + i ≡ suc i = omega arith in
-    let h = sym (ap isNil (option-at i)) ∙ option-shape (suc i) a b .0 in
-    ap (λ n. or (find 1 longNames n) (find 1 shortNames n)) (option-at i)
-    ∙ ap (λ o. or o (find 1 shortNames (getD longNames i []))) (find-again 1 longNames longs-distinct i h ∙ ap some e)
+unfolding optionOf optionName
+option-again k a b = ap (λ o. or o (find 1 shortNames (optionName k))) (number-again longNames longs-distinct k (option-shape k a b .0))
 
 -- numbers with a name are 1 to 12
 option-within : (k : ℕ) → isNil (optionName k) ≡ false → (1 ≤ k) × (k ≤ 12)
@@ -217,12 +210,7 @@ pub option-short-again : (k : ℕ) → isNil (shortName k) ≡ false → optionO
 unfolding optionOf shortName
 option-short-again zero h = no-case h
 option-short-again (suc i) h =
-    let e : 1 + i ≡ suc i = omega arith in
-    let g = sym (ap isNil (short-at i)) ∙ h in
-    ap (λ n. or (find 1 longNames n) (find 1 shortNames n)) (short-at i)
-    ∙ ap (λ o. or o (find 1 shortNames (getD shortNames i []))) (options-long (getD shortNames i []) (short-length i g))
-    ∙ find-again 1 shortNames shorts-distinct i g
-    ∙ ap some e
+    ap (λ o. or o (find 1 shortNames (getD shortNames i []))) (options-long (getD shortNames i []) (short-length i h)) ∙ number-again shortNames shorts-distinct (suc i) h
 
 -- and nothing else is
 pub option-only-name : (s : List ℕ) (k : ℕ) → optionOf s ≡ some k → (1 ≤ k) × (k ≤ 12) × ((s ≡ optionName k) ⊎ (s ≡ shortName k)) × (isNil s ≡ false)
@@ -230,16 +218,10 @@ unfolding optionOf
 option-only-name s k e = go (find 1 longNames s) refl e
   where
     long : find 1 longNames s ≡ some k → (1 ≤ k) × (k ≤ 12) × ((s ≡ optionName k) ⊎ (s ≡ shortName k)) × (isNil s ≡ false)
-    long f =
-        let r = find-name 1 longNames s k f in
-        let z : suc (k - 1) ≡ k = omega (arith, r .0) in
-        (r .0, omega (arith, r .1, longs-many), inl (r .2 ∙ sym (option-at (k - 1)) ∙ ap optionName z), r .3)
+    long f = let r = number-name longNames s k f in (r .0, omega (arith, r .1, longs-many), inl (unfold optionName in r .2), r .3)
 
     short : find 1 shortNames s ≡ some k → (1 ≤ k) × (k ≤ 12) × ((s ≡ optionName k) ⊎ (s ≡ shortName k)) × (isNil s ≡ false)
-    short f =
-        let r = find-name 1 shortNames s k f in
-        let z : suc (k - 1) ≡ k = omega (arith, r .0) in
-        (r .0, omega (arith, r .1, shorts-many), inr (r .2 ∙ sym (short-at (k - 1)) ∙ ap shortName z), r .3)
+    short f = let r = number-name shortNames s k f in (r .0, omega (arith, r .1, shorts-many), inr (unfold shortName in r .2), r .3)
 
     go : (o : Option ℕ) → find 1 longNames s ≡ o → or o (find 1 shortNames s) ≡ some k
         → (1 ≤ k) × (k ≤ 12) × ((s ≡ optionName k) ⊎ (s ≡ shortName k)) × (isNil s ≡ false)
