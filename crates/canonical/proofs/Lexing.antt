@@ -40,13 +40,19 @@ unfoldable pub good : Bool → List Sign → Bool
 good q [] = not q
 good q (x ∷ w) = okSign q x && good (turns q x) w
 
+-- what is known of a byte that may be written in quotes; one that may be written bare is such, and no space
+quoted-apart : (b : ℕ) → okQuoted b ≡ true → (eqb b 96 ≡ false) × (eqb b 34 ≡ false) × (printable b ≡ true)
+quoted-apart b e =
+    let r = and-r (not (eqb b 96)) (not (eqb b 34) && printable b) e in
+    (not-true (eqb b 96) (and-l (not (eqb b 96)) (not (eqb b 34) && printable b) e), not-true (eqb b 34) (and-l (not (eqb b 34)) (printable b) r), and-r (not (eqb b 34)) (printable b) r)
+
+bare-apart : (b : ℕ) → okBare b ≡ true → (eqb b 96 ≡ false) × (eqb b 34 ≡ false) × (printable b ≡ true)
+bare-apart b e = quoted-apart b (and-r (not (eqb b 32)) (okQuoted b) e)
+
 -- one sign
 sign-read : (q : Bool) (x : Sign) → okSign q x ≡ true → (r : List ℕ) → signs (modeOf q) (raw x ++ r) ≡ x ∷ signs (modeOf (turns q x)) r
 unfolding signs gives after
-sign-read false (bare b) e r =
-    let g = not-true (eqb b 96) (and-l (not (eqb b 96)) (not (eqb b 34) && printable b) (and-r (not (eqb b 32)) (okQuoted b) e)) in
-    let h = not-true (eqb b 34) (and-l (not (eqb b 34)) (printable b) (and-r (not (eqb b 96)) (not (eqb b 34) && printable b) (and-r (not (eqb b 32)) (okQuoted b) e))) in
-    simp (g, h)
+sign-read false (bare b) e r = let q = bare-apart b e in simp (q .0, q .1)
 sign-read false (escaped b) e r = simp (and-l (oneOf twelve b) (printable b) e)
 sign-read false quote e r = refl
 sign-read false (quoted b) e r = cc
@@ -54,18 +60,12 @@ sign-read false (quotedEscaped b) e r = cc
 sign-read true (bare b) e r = cc
 sign-read true (escaped b) e r = cc
 sign-read true quote e r = refl
-sign-read true (quoted b) e r =
-    let g = not-true (eqb b 96) (and-l (not (eqb b 96)) (not (eqb b 34) && printable b) e) in
-    let h = not-true (eqb b 34) (and-l (not (eqb b 34)) (printable b) (and-r (not (eqb b 96)) (not (eqb b 34) && printable b) e)) in
-    simp (g, h)
+sign-read true (quoted b) e r = let q = quoted-apart b e in simp (q .0, q .1)
 sign-read true (quotedEscaped b) e r = simp (and-l (oneOf two b) (printable b) e)
 
 sign-end : (q : Bool) (x : Sign) → okSign q x ≡ true → (r : List ℕ) → endMode (modeOf q) (raw x ++ r) ≡ endMode (modeOf (turns q x)) r
 unfolding endMode after walk
-sign-end false (bare b) e r =
-    let g = not-true (eqb b 96) (and-l (not (eqb b 96)) (not (eqb b 34) && printable b) (and-r (not (eqb b 32)) (okQuoted b) e)) in
-    let h = not-true (eqb b 34) (and-l (not (eqb b 34)) (printable b) (and-r (not (eqb b 96)) (not (eqb b 34) && printable b) (and-r (not (eqb b 32)) (okQuoted b) e))) in
-    simp (g, h)
+sign-end false (bare b) e r = let q = bare-apart b e in simp (q .0, q .1)
 sign-end false (escaped b) e r = refl
 sign-end false quote e r = refl
 sign-end false (quoted b) e r = cc
@@ -73,10 +73,7 @@ sign-end false (quotedEscaped b) e r = cc
 sign-end true (bare b) e r = cc
 sign-end true (escaped b) e r = cc
 sign-end true quote e r = refl
-sign-end true (quoted b) e r =
-    let g = not-true (eqb b 96) (and-l (not (eqb b 96)) (not (eqb b 34) && printable b) e) in
-    let h = not-true (eqb b 34) (and-l (not (eqb b 34)) (printable b) (and-r (not (eqb b 96)) (not (eqb b 34) && printable b) e)) in
-    simp (g, h)
+sign-end true (quoted b) e r = let q = quoted-apart b e in simp (q .0, q .1)
 sign-end true (quotedEscaped b) e r = refl
 
 -- a whole text, and whatever follows it
@@ -101,8 +98,7 @@ good-end q (x ∷ w) e r =
 -- its bytes are printable, and no sign of it is a gap
 sign-clean : (q : Bool) (x : Sign) → okSign q x ≡ true → allOf printable (raw x) ≡ true
 unfolding allOf
-sign-clean false (bare b) e =
-    simp (and-r (not (eqb b 34)) (printable b) (and-r (not (eqb b 96)) (not (eqb b 34) && printable b) (and-r (not (eqb b 32)) (okQuoted b) e)))
+sign-clean false (bare b) e = simp (bare-apart b e .2)
 sign-clean false (escaped b) e = simp (and-r (oneOf twelve b) (printable b) e)
 sign-clean false quote e = refl
 sign-clean false (quoted b) e = cc
@@ -110,7 +106,7 @@ sign-clean false (quotedEscaped b) e = cc
 sign-clean true (bare b) e = cc
 sign-clean true (escaped b) e = cc
 sign-clean true quote e = refl
-sign-clean true (quoted b) e = simp (and-r (not (eqb b 34)) (printable b) (and-r (not (eqb b 96)) (not (eqb b 34) && printable b) e))
+sign-clean true (quoted b) e = simp (quoted-apart b e .2)
 sign-clean true (quotedEscaped b) e = simp (and-r (oneOf two b) (printable b) e)
 
 pub good-clean : (q : Bool) (w : List Sign) → good q w ≡ true → allOf printable (raws w) ≡ true

@@ -7,10 +7,10 @@ use native.Mathlib.Omega.{arith}
 use lib.ListN.{length, getD, take, drop, drop-of-length-le, length-take, length-drop}
 use lib.Seq.{getD-take}
 use lib.Dec.{eqb}
-use borrow.Author.Tests.{eq-eqb, ne-eqb}
-use Rattle.text.specs.Lists.{anyOf, upTo, isNil}
+use borrow.Author.Tests.{eq-eqb, ne-eqb, not-false}
+use Rattle.text.specs.Lists.{anyOf, upTo, runLen, isNil}
 use Rattle.text.proofs.Basics.{no-case}
-use Rattle.text.proofs.Scans.{step-of, drop-step}
+use Rattle.text.proofs.Scans.{step-of, drop-step, run-within, run-fails}
 
 module _ {A : Type 0} (f : A → Bool) where
   -- it is the front of its list
@@ -23,14 +23,18 @@ module _ {A : Type 0} (f : A → Bool) where
       go true ih = refl
       go false ih = ap (λ (z : List A). x ∷ z) ih
 
-  pub up-within : (s : List A) → length (upTo f s) ≤ length s
-  unfolding upTo
-  up-within [] = omega arith
-  up-within (x ∷ s) = go (f x) (up-within s)
+  -- it is the run of those that fail the test
+  up-run : (s : List A) → length (upTo f s) ≡ runLen (λ x. not (f x)) s
+  unfolding upTo runLen
+  up-run [] = refl
+  up-run (x ∷ s) = go (f x) (up-run s)
     where
-      go : (t : Bool) → length (upTo f s) ≤ length s → length (cond t [] (x ∷ upTo f s)) ≤ suc (length s)
-      go true ih = omega arith
-      go false ih = omega arith
+      go : (t : Bool) → length (upTo f s) ≡ runLen (λ y. not (f y)) s → length (cond t [] (x ∷ upTo f s)) ≡ cond (not t) (suc (runLen (λ y. not (f y)) s)) 0
+      go true ih = refl
+      go false ih = ap suc ih
+
+  pub up-within : (s : List A) → length (upTo f s) ≤ length s
+  up-within s = omega (arith, up-run s, run-within (λ x. not (f x)) s)
 
   -- nothing in it passes the test, and what follows it does
   pub up-none : (s : List A) → anyOf f (upTo f s) ≡ false
@@ -43,14 +47,7 @@ module _ {A : Type 0} (f : A → Bool) where
       go false e ih = simp (e, ih)
 
   pub up-next : (s : List A) (d : A) → length (upTo f s) < length s → f (getD s (length (upTo f s)) d) ≡ true
-  unfolding upTo
-  up-next [] d h = absurd (omega arith)
-  up-next (x ∷ s) d h = go (f x) refl h (up-next s d)
-    where
-      go : (t : Bool) → f x ≡ t → length (cond t [] (x ∷ upTo f s)) < suc (length s) → (length (upTo f s) < length s → f (getD s (length (upTo f s)) d) ≡ true)
-          → f (getD (x ∷ s) (length (cond t [] (x ∷ upTo f s))) d) ≡ true
-      go true e k ih = e
-      go false e k ih = ih (omega arith)
+  up-next s d h = not-false (f (getD s (length (upTo f s)) d)) (ap (λ (i : ℕ). not (f (getD s i d))) (up-run s) ∙ run-fails (λ x. not (f x)) s d (omega (arith, up-run s)))
 
 -- a scan for it: it goes on, it ends, it is past the list
 module _ {A : Type 0} (f : A → Bool) (l : List A) (i : ℕ) (d : A) where
