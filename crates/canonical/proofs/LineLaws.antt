@@ -10,12 +10,10 @@ use Rattle.text.specs.declared.Answer.the-variants as answer
 use Rattle.text.specs.declared.Verdict.the-variants.{Fine}
 use Rattle.text.specs.Lists.{each, between}
 use Rattle.text.proofs.Writes.{fitted-room, fitted-none, filled-none, filled-sets}
-use Rattle.terms.specs.declared.Found.the-variants as found
 use Rattle.terms.specs.Signs.{bare, raws}
 use Rattle.terms.proofs.TermLaws.{raws-append}
 use Rattle.reading.specs.declared.Shown.{Shown}
 use Rattle.reading.specs.declared.Cursor.{Cursor}
-use Rattle.reading.specs.declared.Given.the-variants as gives
 use Rattle.reading.specs.Command.{Item}
 use Rattle.reading.specs.Reading.{Reading, refusal, read, adding}
 use Rattle.reading.specs.Cursor.{left, start}

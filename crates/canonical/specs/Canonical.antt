@@ -5,7 +5,7 @@ use mathlib.Core.Bool.{Bool, true, false, cond, not, _&&_, _||_}
 use mathlib.Core.Option.{Option, none, some}
 use lib.Dec.{eqb}
 use Rattle.text.specs.declared.Answer.{Answer}
-use Rattle.text.specs.declared.Answer.the-variants.{Wrote, Refused}
+use Rattle.text.specs.declared.Answer.the-variants.{Refused}
 use Rattle.text.specs.Bytes.{bytes, oneOf, isWord}
 use Rattle.text.specs.Lists.{allOf, between, isNil}
 use Rattle.text.specs.Room.{fitted, filled}
@@ -14,7 +14,7 @@ use Rattle.words.specs.Words.{verbName, optionName, sessionName}
 use Rattle.forms.specs.Forms.{Value, one, many, Entry, Said, alone, equals, matches, Property}
 use Rattle.forms.specs.Targets.{Target, session, path}
 use Rattle.reading.specs.Command.{Argument, number, text, items, Item, verb, option, argument, target, prop}
-use Rattle.reading.specs.Reading.{Part, Reading, refusal, read, readingOf}
+use Rattle.reading.specs.Reading.{Part, Reading, refusal, read}
 
 -- in quotes, with GRAVE before GRAVE and `"`
 unfoldable pub inQuotes : ℕ → Sign

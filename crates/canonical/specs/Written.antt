@@ -17,7 +17,7 @@ use Rattle.words.specs.Words.{verbName, optionName, kindOf}
 use Rattle.reading.specs.declared.Shown.{Shown}
 use Rattle.reading.specs.declared.Shown.the-variants as shown
 use Rattle.reading.specs.Command.{Item}
-use Rattle.reading.specs.Reading.{Part, Reading, refusal, read}
+use Rattle.reading.specs.Reading.{Reading, refusal, read}
 use Rattle.canonical.specs.Canonical.{closing, writeText, writeItem, itemsOf}
 
 -- ---- bytes with GRAVEs

@@ -1,13 +1,12 @@
 -- Demand 1: on a refusal no byte or number lent for an answer has changed. One theorem for each definition of what lent room then holds. (That every entry
 -- point accepts all inputs and ends is no theorem of its own: no public function has a `requires`, and a proved function ends.) Assumes nothing.
 use Prim.Native.Nat.{ℕ}
-use mathlib.Core.Path.{_≡_, refl, sym, ap, _∙_}
+use mathlib.Core.Path.{_≡_, refl}
 use mathlib.Core.List.{List}
 use mathlib.Core.Bool.{Bool, true, false, cond}
 use native.Mathlib.Omega.{arith}
 use lib.ListN.{length}
 use lib.Dec.{leb, ltb}
-use Rattle.text.specs.declared.Answer.{Answer}
 use Rattle.text.specs.declared.Answer.the-variants.{Wrote, Refused}
 use Rattle.text.specs.Room.{wrote, fitted, filled}
 use Rattle.reading.specs.Reading.{Reading, refusal, read}
@@ -15,15 +14,12 @@ use Rattle.reading.specs.Records.{readRecords, answerIn, roomIn}
 use Rattle.canonical.specs.Canonical.{itemsOf, writing, writingAnswer, writingRoom}
 use Rattle.tree.specs.declared.Checked.{Checked}
 use Rattle.tree.specs.declared.Checked.the-variants.{Good, Bad}
-use Rattle.tree.specs.declared.Resolved.{Resolved}
 use Rattle.tree.specs.declared.Resolved.the-variants as resolved
 use Rattle.tree.specs.Tree.{records, checkTree}
 use Rattle.tree.specs.Path.{fullPath, pathBy, pathAnswer, pathRoomBy, pathRoom}
 use Rattle.tree.specs.Resolve.{Found, session′, nodes, refused, foundOf, resolvedBy, listBy, resolveOf, resolveList}
-use Rattle.joiner.specs.declared.Joiner.{Joiner}
 use Rattle.joiner.specs.declared.End.{End}
 use Rattle.joiner.specs.declared.End.the-variants as end′
-use Rattle.capture.specs.declared.Stands.{Stands}
 use Rattle.capture.specs.declared.Stands.the-variants as stands
 use Rattle.capture.specs.Answers.{Told}
 use Rattle.capture.specs.Answers as answers

@@ -1,25 +1,22 @@
 -- Demand 3: two captures, each read whole from a fresh start in any division into calls, give the same answers from the line after the first end of
 -- line of a tail that both share, and at the end; and the lines that ended inside a beginning that both share are answered alike.
 -- Assumes nothing.
-use Prim.Native.Nat.{ℕ, zero, suc, _+_, _<_, _≤_}
+use Prim.Native.Nat.{ℕ, suc, _+_, _<_, _≤_}
 use native.Mathlib.Omega.{arith}
 use native.Mathlib.Nat.{add-zero}
 use mathlib.Core.Path.{_≡_, refl, sym, ap, _∙_}
 use mathlib.Core.List.{List, [], _∷_, _++_, flatten}
-use mathlib.Core.Bool.{Bool, true, cond}
+use mathlib.Core.Bool.{true}
 use lib.ListN.{length, take, drop, length-append}
 use lib.Seq.{take-append-seam, drop-append-seam}
-use Rattle.reading.specs.Reading.{Reading, refusal, readingOf}
+use Rattle.reading.specs.Reading.{Reading}
 use Rattle.reading.proofs.Folds.{long-left}
 use Rattle.reading.specs.Records.{targetIn, partAt, targetPart}
-use Rattle.joiner.specs.declared.Joiner.{Joiner}
-use Rattle.joiner.specs.declared.End.{End}
-use Rattle.joiner.specs.Lines.{Given, lineOrRefused, begin, linesFrom, linesOf, openAfter, Ending, endingOf, trusted, freshAfter}
-use Rattle.joiner.specs.Step.{start}
-use Rattle.joiner.specs.Calls.{Calls, endAs}
+use Rattle.joiner.specs.Lines.{Given, lineOrRefused, begin, linesFrom, linesOf, openAfter, endingOf, trusted, freshAfter}
+use Rattle.joiner.specs.Calls.{endAs}
 use Rattle.joiner.proofs.Capture.{calls-give, calls-run}
 use Rattle.joiner.proofs.Trust.{lines-of-append, withByte, trusted-ends, trusted-lines, same-ending}
-use Rattle.capture.specs.Answers.{Lent, Answer, recordsTold, writingTold, lineAnswer, longAnswer, answerOf, answersFrom, answersOf}
+use Rattle.capture.specs.Answers.{Lent, Answer, lineAnswer, longAnswer, answerOf, answersFrom, answersOf}
 use Rattle.capture.specs.Trust.{Run, runAnswers, runEnd, endedBy, resumes}
 
 -- ---- an over-long line's answer is that of row 1, whatever its text

@@ -3,9 +3,9 @@
 use Prim.Native.Nat.{ℕ, suc, _<_, _≤_}
 use native.Mathlib.Omega.{arith}
 use mathlib.Core.Path.{_≡_, refl, sym, ap, _∙_, subst}
-use mathlib.Core.List.{List, [], _∷_, _++_}
-use mathlib.Core.Bool.{Bool, true, false, cond, _&&_}
-use lib.ListN.{length, take, drop}
+use mathlib.Core.List.{List, [], _∷_}
+use mathlib.Core.Bool.{Bool, true, false, cond}
+use lib.ListN.{length, take}
 use lib.Dec.{eqb, leb}
 use borrow.Author.Tests.{le-leb, lt-leb, leb-true, leb-false, eq-eqb, ne-eqb}
 use Rattle.text.specs.declared.Answer.{Answer}
@@ -19,12 +19,12 @@ use Rattle.joiner.specs.declared.Outcome.the-variants as outcome
 use Rattle.joiner.specs.declared.End.{End}
 use Rattle.joiner.specs.declared.End.the-variants as end′
 use Rattle.joiner.specs.Lines.{Kind, CR, LF, GRAVE, plain, kindOf}
-use Rattle.joiner.specs.Step.{st, reachable, Step, stepBy, byteStep, lineOf, stored}
+use Rattle.joiner.specs.Step.{st, reachable, stepBy, byteStep, lineOf, stored}
 use Rattle.joiner.specs.Join.{Ran, ran, goOn, run, joinOf, endOf}
 use Rattle.joiner.proofs.Laws.{fits-length, used-within}
 use Rattle.joiner.proofs.Reach.{Fine, fine-step, to-fine}
 use Rattle.joiner.proofs.Past.{refused-whole}
-use Rattle.reading.specs.Reading.{Part, Reading, refusal, read, readingOf}
+use Rattle.reading.specs.Reading.{Reading, refusal, read, readingOf}
 use Rattle.reading.specs.Records.{readRecords, refusalRecord, cutRecord, answerIn, roomIn}
 use Rattle.capture.specs.declared.Stands.{Stands}
 use Rattle.capture.specs.declared.Stands.the-variants.{Nothing, Records, Refused}

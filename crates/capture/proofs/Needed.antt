@@ -1,10 +1,10 @@
 -- Demand 3's condition cannot be weakened: with a tail that begins with GRAVE or with CR, or whose second byte is no end of line, two captures differ.
 -- Assumes nothing.
 use Prim.Native.Nat.{ℕ}
-use mathlib.Core.Path.{_≡_, refl, sym, ap, _∙_}
+use mathlib.Core.Path.{_≡_, sym, ap, _∙_}
 use mathlib.Core.List.{List, [], _∷_, _++_}
 use mathlib.Core.Bool.{Bool, true, false, true≢false, false≢true}
-use lib.ListN.{length, drop}
+use lib.ListN.{drop}
 use lib.Dec.{eqb}
 use Rattle.text.specs.Lists.{runLen}
 use Rattle.terms.specs.Rows.{longFlaw, oddFlaw, lexicalOf}
@@ -12,7 +12,6 @@ use Rattle.reading.specs.Reading.{readingOf}
 use Rattle.joiner.specs.declared.End.{End}
 use Rattle.joiner.specs.declared.End.the-variants as end′
 use Rattle.joiner.specs.Lines.{kindOf, lineOrRefused, next, linesFrom, linesOf, openAfter, endingFrom, endingOf}
-use Rattle.joiner.specs.Calls.{endAs}
 use Rattle.capture.specs.Answers.{Told, wrote, refuses, Lent, Answer, lineAnswer, answersFrom, answersOf}
 use Rattle.capture.specs.Trust.{Run, runAnswers, runEnd, endedBy}
 use Rattle.capture.proofs.Demand3.{run-answers, run-end}

@@ -8,28 +8,27 @@ use mathlib.Core.List.{List, [], _∷_, _++_, append-assoc}
 use mathlib.Core.Bool.{Bool, true, false, cond}
 use mathlib.Core.Option.{Option, none, some}
 use lib.ListN.{length, getD, take, drop, set, length-append, length-drop, drop-of-length-le, List·getD-eq-default}
-use lib.Seq.{sets, drop-cons, drop-drop, getD-drop}
-use lib.Dec.{leb, ltb, eqb}
+use lib.Seq.{sets, drop-drop, getD-drop}
+use lib.Dec.{leb, ltb}
 use borrow.Author.Tests.{lt-ltb, le-ltb, ltb-true, ltb-false, eq-eqb, ne-eqb, le-leb, lt-leb, leb-true}
 use Rattle.text.specs.declared.Answer as answer
 use Rattle.text.specs.declared.Answer.the-variants as answers
 use Rattle.text.specs.declared.Verdict.{Verdict}
 use Rattle.text.specs.declared.Verdict.the-variants.{Fine, Flawed}
 use Rattle.text.specs.Bytes.{bytes}
-use Rattle.text.specs.Decimal.{digits, width}
+use Rattle.text.specs.Decimal.{digits}
 use Rattle.text.specs.Room.{fitted, filled}
 use Rattle.text.specs.Room as room′
 use Rattle.text.proofs.Basics.{none-some}
 use Rattle.text.proofs.Slices.{part-from}
 use Rattle.text.proofs.Decimals.{width-between, length-digits}
 use Rattle.text.proofs.Writes.{sets-append, then-sets, then-set, fitted-room, filled-sets}
-use Rattle.words.specs.declared.Known.{Known}
 use Rattle.words.specs.declared.Known.the-variants.{Is, Unknown}
 use Rattle.words.specs.Tables.{known}
 use Rattle.words.specs.Words.{bodies, bodyOf}
 use Rattle.capture.specs.Answers.{Told, wrote, refuses}
-use Rattle.capture.specs.Words.{Form, form, forms, formOf, total, fieldOf, fieldsText, recordText, then, onForm, textFrom, textOf, textAnswer, textRoom}
-use Rattle.capture.specs.Steps.{isForm, wordBy, fieldsBy, bodyBy, lenBy, textBy, firstText, fieldText, rowFields, textAt, flawIn, textIn, answerFrom, answerPast, verdictBy}
+use Rattle.capture.specs.Words.{Form, forms, formOf, total, fieldOf, fieldsText, recordText, then, onForm, textFrom, textOf, textAnswer, textRoom}
+use Rattle.capture.specs.Steps.{wordBy, fieldsBy, bodyBy, lenBy, textBy, firstText, fieldText, rowFields, textAt, flawIn, textIn, answerFrom, answerPast, verdictBy}
 use Rattle.text.proofs.Scans.{drop-step}
 
 -- ---- kinds

@@ -1,10 +1,10 @@
 -- A capture's answers: for each line its reading, its target's part, the instances that this addresses and its canonical writing.
 use Prim.Native.Nat.{ℕ, suc}
 use mathlib.Core.List.{List, [], _∷_}
-use mathlib.Core.Bool.{Bool, cond}
+use mathlib.Core.Bool.{cond}
 use lib.ListN.{length}
 use lib.Dec.{leb}
-use Rattle.joiner.specs.Lines.{Given, line, refused, linesOf, Ending, endingOf}
+use Rattle.joiner.specs.Lines.{Given, line, refused, linesOf}
 use Rattle.reading.specs.Reading.{Reading, refusal, read, readingOf}
 use Rattle.reading.specs.Records.{readRecords, targetPart}
 use Rattle.tree.specs.Resolve.{Found, session′, nodes, foundOf}

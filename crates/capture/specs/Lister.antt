@@ -6,13 +6,12 @@ use lib.ListN.{length, take}
 use lib.Dec.{leb, eqb}
 use Rattle.text.specs.Room.{wrote, filled}
 use Rattle.joiner.specs.declared.Joiner.{Joiner}
-use Rattle.joiner.specs.declared.Joined.{Joined}
 use Rattle.joiner.specs.declared.Outcome.{Outcome}
 use Rattle.joiner.specs.declared.Outcome.the-variants as outcome
 use Rattle.joiner.specs.declared.End.{End}
 use Rattle.joiner.specs.declared.End.the-variants as end′
 use Rattle.joiner.specs.Step.{reachable}
-use Rattle.joiner.specs.Join.{Ran, joinOf, endOf}
+use Rattle.joiner.specs.Join.{Ran, joinOf}
 use Rattle.reading.specs.Reading.{Reading, refusal, read, readingOf}
 use Rattle.reading.specs.Records.{readRecords, refusalRecord, cutRecord}
 use Rattle.capture.specs.declared.Stands.{Stands}

@@ -1,5 +1,5 @@
 -- What the face's functions are made of, and what it says of a number that is no state's. Assumes nothing.
-use Prim.Native.Nat.{ℕ, _+_, _%_, _<_, _≤_}
+use Prim.Native.Nat.{ℕ, _+_, _<_, _≤_}
 use mathlib.Core.Path.{_≡_, refl, sym, ap, _∙_}
 use mathlib.Core.List.{List}
 use mathlib.Core.Bool.{Bool, true, false, cond, _&&_, true≢false, and-false}
@@ -21,10 +21,9 @@ use Rattle.capture.specs.Lister as lister
 use Rattle.capture.specs.Lister.{listOf, endStands, endRoom}
 use Rattle.clp.specs.declared.ClpAnswer.{ClpAnswer}
 use Rattle.clp.specs.declared.ClpJoined.{ClpJoined}
-use Rattle.clp.specs.declared.ClpTerm.{ClpTerm}
 use Rattle.clp.specs.State.{mark, numberOf, stateOf}
 use Rattle.clp.specs.Face.{told, none64, outcomeOf, with, noCall, joinedOf, joinFace, joinBuffer, endAnswer, endFace, term, partOf, standsOf, listedOf, listFace, listBuffer, listRoom, listEndFace, listEndRoom}
-use Rattle.clp.proofs.StateLaws.{led-back, number-back}
+use Rattle.clp.proofs.StateLaws.{number-back}
 
 -- ---- parts of an answer
 

@@ -8,7 +8,7 @@ use lib.Dec.{eqb}
 use Rattle.joiner.specs.declared.Joiner.{Joiner}
 use Rattle.joiner.specs.Step.{st, reachable}
 use Rattle.joiner.proofs.Reach.{to-fine}
-use Rattle.clp.specs.State.{mark, marked, numberOf, stateOf}
+use Rattle.clp.specs.State.{mark, numberOf, stateOf}
 
 -- a flag as 0 or 1
 abbrev bit : Bool → ℕ

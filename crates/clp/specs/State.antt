@@ -1,6 +1,6 @@
 -- The joiner's state as one number that the caller keeps: the bytes held, and 2,048 for a GRAVE that waits, 4,096 for a CR just seen, 8,192 for a line
 -- that is too long.
-use Prim.Native.Nat.{ℕ, _+_, _*_, _/_, _%_}
+use Prim.Native.Nat.{ℕ, _+_, _/_, _%_}
 use mathlib.Core.Bool.{Bool, cond}
 use lib.Dec.{eqb}
 use Rattle.joiner.specs.declared.Joiner.{Joiner}

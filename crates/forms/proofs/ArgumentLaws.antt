@@ -2,7 +2,7 @@
 use Prim.Native.Nat.{ℕ}
 use mathlib.Core.Path.{_≡_, refl, sym}
 use mathlib.Core.List.{List}
-use mathlib.Core.Bool.{Bool, true, false, not, _||_}
+use mathlib.Core.Bool.{true, false, not}
 use Rattle.text.specs.declared.Number.the-variants as number
 use Rattle.text.specs.Decimal.{decimalOf}
 use Rattle.text.proofs.Decimals.{is-decimal, no-decimal}

@@ -1,29 +1,27 @@
 -- The items of display and output, and those of a list, one by one, by their bytes. Assumes nothing.
-use Prim.Native.Nat.{ℕ, zero, suc, _+_, _-_, _<_, _≤_, min}
+use Prim.Native.Nat.{ℕ, suc, _+_, _-_, _<_, _≤_}
 use mathlib.Core.Path.{_≡_, refl, sym, ap, _∙_}
 use mathlib.Core.List.{List, [], _∷_, _++_, map}
 use mathlib.Core.Bool.{Bool, true, false, cond, not, _&&_, _||_, and-false, and-true}
 use mathlib.Core.Option.{Option, none, some}
 use native.Mathlib.Omega.{arith}
-use native.Mathlib.Numerals.{add-one}
 use lib.ListN.{length, getD, take, drop, length-take, length-drop, drop-of-length-le}
-use lib.Seq.{take-all, take-take, drop-drop, drop-cons}
-use lib.Dec.{eqb, leb}
+use lib.Seq.{take-take, drop-drop}
+use lib.Dec.{eqb}
 use borrow.Author.Tests.{eqb-true, eqb-false, ne-eqb}
-use Rattle.text.specs.Bytes.{bytes, oneOf}
-use Rattle.text.specs.Lists.{anyOf, upTo, parts, onto, isNil, given, every}
+use Rattle.text.specs.Lists.{upTo, parts, onto, isNil, given, every}
 use Rattle.text.proofs.Basics.{or-l, or-r, no-case}
 use Rattle.text.proofs.Slices.{part-from, drop-take}
 use Rattle.text.proofs.Scans.{drop-step, scan-within}
 use Rattle.terms.specs.declared.Mode.{Mode}
 use Rattle.terms.specs.declared.Mode.the-variants.{Out, OutGrave, In, InGrave}
-use Rattle.terms.specs.Signs.{Sign, bare, escaped, quote, quoted, quotedEscaped, isBare, twelve, two, after, gives, atEnd, signs}
-use Rattle.forms.specs.Forms.{itemsIn, Entry, entryOf, entryParts, entriesOf}
+use Rattle.terms.specs.Signs.{Sign, bare, escaped, quote, quoted, quotedEscaped, isBare, after, gives, atEnd, signs}
+use Rattle.forms.specs.Forms.{itemsIn, entryOf, entryParts, entriesOf}
 use Rattle.forms.specs.Automata.{isComma, opened, entryLen}
-use Rattle.forms.specs.Answers.{isSome, textIn, areEntriesIn}
+use Rattle.forms.specs.Answers.{isSome}
 use Rattle.forms.specs.Steps.{bareAt, endsItem, itemLen, isEntryIn}
 use Rattle.forms.proofs.Lists.{taken-step}
-use Rattle.forms.proofs.TextLaws.{no-comma, no-open, no-close, items-close, items-comma, items-other, items-some}
+use Rattle.forms.proofs.TextLaws.{no-comma, no-open, no-close, items-close, items-comma, items-other}
 use Rattle.forms.proofs.PropertyLaws.{taken-part}
 use Rattle.terms.proofs.ByteCases.{gives-case, end-case}
 

@@ -1,23 +1,21 @@
 -- Where the items of a list that is closed end: at a comma, or at its closing parenthesis. Assumes nothing.
-use Prim.Native.Nat.{ℕ, zero, suc, _+_, _-_, _<_, _≤_}
+use Prim.Native.Nat.{ℕ, suc, _+_, _<_}
 use mathlib.Core.Path.{_≡_, refl, sym, ap, _∙_}
 use mathlib.Core.List.{List, [], _∷_, _++_}
-use mathlib.Core.Bool.{Bool, true, false, cond, not, _&&_, _||_}
+use mathlib.Core.Bool.{Bool, true, false, cond, _&&_, _||_}
 use native.Mathlib.Omega.{arith}
-use lib.ListN.{length, getD, take, drop, drop-of-length-le}
+use lib.ListN.{length, getD, drop, drop-of-length-le}
 use lib.Dec.{eqb, leb}
-use borrow.Author.Tests.{eqb-true, ne-eqb, leb-true, leb-false}
-use Rattle.text.specs.Bytes.{oneOf}
+use borrow.Author.Tests.{eqb-true, leb-true, leb-false}
 use Rattle.text.specs.Lists.{allOf, anyOf, past, isNil}
-use Rattle.text.proofs.Basics.{and-l, or-l, or-r, no-case}
+use Rattle.text.proofs.Basics.{and-l, or-r, no-case}
 use Rattle.text.proofs.Scans.{drop-step}
 use Rattle.terms.specs.declared.Mode.{Mode}
 use Rattle.terms.specs.declared.Mode.the-variants.{Out, OutGrave, In, InGrave}
-use Rattle.terms.specs.Signs.{Sign, bare, escaped, quote, quoted, quotedEscaped, isBare, twelve, two, after, gives, atEnd, signs}
+use Rattle.terms.specs.Signs.{Sign, isBare, after, gives, atEnd, signs}
 use Rattle.forms.specs.Forms.{isText, itemsIn, isList}
-use Rattle.forms.specs.Steps.{bareAt, endsItem, itemLen}
+use Rattle.forms.specs.Steps.{endsItem, itemLen}
 use Rattle.forms.proofs.TextLaws.{no-close}
-use Rattle.forms.proofs.EntryLaws.{item-within}
 use Rattle.terms.proofs.ByteCases.{gives-case, end-case}
 
 -- has it a bare closing parenthesis?

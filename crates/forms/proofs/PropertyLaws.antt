@@ -1,29 +1,27 @@
 -- Names, and how a property's text divides by its bytes: its name, its operator, its value. Assumes nothing.
-use Prim.Native.Nat.{ℕ, zero, suc, _+_, _-_, _<_, _≤_, min}
+use Prim.Native.Nat.{ℕ, suc, _+_, _-_, _<_, _≤_, min}
 use mathlib.Core.Path.{_≡_, refl, sym, ap, _∙_}
-use mathlib.Core.List.{List, [], _∷_, _++_, map, append-assoc, append-nil}
-use mathlib.Core.Bool.{Bool, true, false, cond, not, _&&_, _||_, and-false}
+use mathlib.Core.List.{List, [], _∷_, _++_}
+use mathlib.Core.Bool.{Bool, true, false, cond, _&&_}
 use mathlib.Core.Option.{Option, none, some}
 use native.Mathlib.Omega.{arith}
 use native.Mathlib.Numerals.{add-one}
-use lib.ListN.{length, getD, take, drop, length-take, length-drop, drop-of-length-le}
-use lib.Seq.{take-all, split-at, length-take-le, drop-drop, getD-drop, getD-take}
+use lib.ListN.{length, getD, take, drop, length-take, drop-of-length-le}
+use lib.Seq.{take-all, split-at, length-take-le, getD-take}
 use lib.Dec.{eqb, leb, ltb}
 use borrow.Author.Tests.{eqb-true, eq-eqb, ne-eqb, le-leb, lt-leb, leb-true, leb-false, lt-ltb, le-ltb, ltb-true, eqb-false}
-use Rattle.text.specs.Bytes.{oneOf, isLetter, isDigit, isWord}
-use Rattle.text.specs.Lists.{allOf, anyOf, upTo, past, runLen, given}
+use Rattle.text.specs.Bytes.{isLetter, isWord}
+use Rattle.text.specs.Lists.{allOf, anyOf, upTo, runLen, given}
 use Rattle.text.proofs.Basics.{and-l, and-r, no-case, up-over, up-at, past-at, any-at, all-right}
 use Rattle.text.proofs.Classes.{letter-word}
 use Rattle.text.proofs.Scans.{run-within, all-run, run-fails, take-run, drop-step}
-use Rattle.terms.specs.declared.Mode.{Mode}
-use Rattle.terms.specs.declared.Mode.the-variants.{Out, OutGrave, In, InGrave}
-use Rattle.terms.specs.Signs.{Sign, bare, escaped, quote, quoted, quotedEscaped, isBare, twelve, after, gives, atEnd, signs, raw, raws, bares}
+use Rattle.terms.specs.declared.Mode.the-variants.{Out, OutGrave, In}
+use Rattle.terms.specs.Signs.{Sign, bare, isBare, signs, raws, bares}
 use Rattle.terms.proofs.TermLaws.{raws-signs, raws-append, bare-signs, bares-signs, raws-bares, none-bares, bares-alone}
 use Rattle.terms.proofs.ByteCases.{out-case, grave-first}
-use Rattle.forms.specs.declared.Shape.{Shape}
 use Rattle.forms.specs.declared.Shape.the-variants as shape
-use Rattle.forms.specs.Forms.{starts, isName, hasEq, Value, valueOf, Said, alone, equals, matches, saidOf, Property, property, propertyOf, topicOf, Entry, entry, entryOf}
-use Rattle.forms.specs.Answers.{isSome, operatorOf, shapeOf, textIn, propertyIn, topicIn, isValueIn}
+use Rattle.forms.specs.Forms.{starts, isName, hasEq, Value, valueOf, Said, alone, equals, matches, saidOf, property, propertyOf, topicOf, entry, entryOf}
+use Rattle.forms.specs.Answers.{isSome, operatorOf, shapeOf, propertyIn, topicIn, isValueIn}
 use Rattle.forms.specs.Steps.{nameLen, equalAt, shapeIf, isEntryIn}
 use Rattle.forms.proofs.ValueLaws.{starts-byte, value-part, first-taken}
 use Rattle.forms.proofs.FormCases.{namedOf, as-property, as-entry}

@@ -1,9 +1,9 @@
 -- A path's segments, one at a time, by their bytes. Assumes nothing.
-use Prim.Native.Nat.{ℕ, suc, zero, _+_, _-_, _<_, _≤_}
+use Prim.Native.Nat.{ℕ, suc, _+_, _-_, _<_, _≤_}
 use mathlib.Core.Path.{_≡_, refl, sym, ap, _∙_}
 use mathlib.Core.List.{List, [], _∷_, _++_}
 use mathlib.Core.Bool.{Bool, true, false, cond, not, _&&_, _||_, and-false, and-true}
-use mathlib.Core.Option.{Option, none, some}
+use mathlib.Core.Option.{none, some}
 use native.Mathlib.Omega.{arith}
 use native.Mathlib.Numerals.{add-one}
 use borrow.Author.Tests.{le-leb, lt-leb}
@@ -12,7 +12,7 @@ use lib.Seq.{length-take-le, getD-drop, drop-drop, drop-cons, take-all}
 use lib.Dec.{eqb, leb}
 use Rattle.text.specs.declared.Number.the-variants as number
 use Rattle.text.specs.Bytes.{bytes, sameBytes, isLetter}
-use Rattle.text.specs.Lists.{allOf, anyOf, upTo, parts, runLen, isNil}
+use Rattle.text.specs.Lists.{anyOf, upTo, parts, runLen, isNil}
 use Rattle.text.specs.Decimal.{valueFrom, isDecimal, decimalOf}
 use Rattle.text.proofs.Basics.{and-l, no-case, parts-at, parts-none, parts-some}
 use Rattle.text.proofs.Slices.{part-from, part-between, length-between}
@@ -21,9 +21,8 @@ use Rattle.text.proofs.Scans.{run-within}
 use Rattle.words.specs.Words.{sessionName}
 use Rattle.forms.specs.declared.Piece.{Piece}
 use Rattle.forms.specs.declared.Piece.the-variants as piece
-use Rattle.forms.specs.declared.Where.{Where}
 use Rattle.forms.specs.declared.Where.the-variants as where′
-use Rattle.forms.specs.Targets.{isSeparator, tagLen, isTagLen, isNumbered, isStarred, isSegment, areSegments, Segment, here, above, child, children, segmentOf, Target, path, segmentsOf, pathOf, targetOf}
+use Rattle.forms.specs.Targets.{isSeparator, tagLen, isTagLen, isNumbered, isStarred, isSegment, areSegments, segmentOf, path, segmentsOf, pathOf, targetOf}
 use Rattle.forms.specs.Answers.{pieceOf, segmentText, segmentAt, whereOf, targetIn}
 use Rattle.forms.specs.Steps.{isNumber, numberOf, afterTag, isInner, isLast, pathFrom}
 use Rattle.forms.proofs.Lists.{up-take, up-within, up-none, up-next}

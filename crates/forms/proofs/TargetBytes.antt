@@ -1,23 +1,21 @@
 -- A target that is of its form has no bytes but letters, digits, `.`, `*` and separators: its signs are all bare. Assumes nothing.
-use Prim.Native.Nat.{ℕ, zero, suc, _+_, _-_, _<_, _≤_}
+use Prim.Native.Nat.{ℕ}
 use mathlib.Core.Path.{_≡_, refl, sym, ap, _∙_}
-use mathlib.Core.List.{List, [], _∷_, _++_, map, append-nil}
+use mathlib.Core.List.{List, [], _∷_}
 use mathlib.Core.Bool.{Bool, true, false, cond, not, _&&_, _||_}
-use mathlib.Core.Option.{Option, none, some}
-use native.Mathlib.Omega.{arith}
-use lib.ListN.{length, take, drop, getD, take-append-drop}
-use lib.Dec.{eqb, leb}
-use borrow.Author.Tests.{eqb-true}
+use mathlib.Core.Option.{some}
+use lib.ListN.{take, drop, getD, take-append-drop}
+use lib.Dec.{eqb}
 use Rattle.text.specs.Bytes.{bytes, sameBytes, isLetter, isDigit}
 use Rattle.text.specs.Lists.{allOf, parts, onto, isNil, runLen}
 use Rattle.text.specs.Decimal.{isDecimal}
-use Rattle.text.proofs.Basics.{and-l, and-r, or-in-l, or-in-r, or-case, no-case, same-eq, all-append, all-mono, cond-some, none-some, parts-some, nil-is}
+use Rattle.text.proofs.Basics.{and-l, and-r, or-in-l, or-in-r, or-case, no-case, same-eq, all-append, all-mono, parts-some}
 use Rattle.text.proofs.Scans.{take-run}
 use Rattle.text.proofs.Decimals.{decimal-made}
 use Rattle.terms.specs.declared.Mode.the-variants.{Out}
-use Rattle.terms.specs.Signs.{Sign, bare, after, gives, signs, bares}
+use Rattle.terms.specs.Signs.{signs, bares}
 use Rattle.words.specs.Words.{sessionName}
-use Rattle.forms.specs.Targets.{isSeparator, tagLen, isTagLen, isNumbered, isStarred, isSegment, areSegments, Target, session, path, segmentsOf, pathOf, targetOf}
+use Rattle.forms.specs.Targets.{isSeparator, tagLen, isTagLen, isNumbered, isStarred, isSegment, areSegments, Target, targetOf}
 use Rattle.terms.proofs.TermLaws.{bares-alone}
 use Rattle.forms.proofs.FormCases.{target-from}
 

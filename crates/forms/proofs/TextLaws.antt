@@ -1,8 +1,8 @@
 -- Values read sign by sign are the paper's values; and what one byte more, and the end, make of such a pass. Assumes nothing.
-use Prim.Native.Nat.{ℕ, zero, suc, _+_, _-_, _<_, _≤_}
+use Prim.Native.Nat.{ℕ, suc, _+_, _<_, _≤_}
 use mathlib.Core.Path.{_≡_, refl, sym, ap, _∙_}
 use mathlib.Core.List.{List, [], _∷_, _++_}
-use mathlib.Core.Bool.{Bool, true, false, cond, not, _&&_, _||_}
+use mathlib.Core.Bool.{Bool, true, false, cond, _&&_}
 use native.Mathlib.Omega.{arith}
 use native.Mathlib.Numerals.{add-one}
 use lib.ListN.{length, getD, take, drop, drop-of-length-le}
@@ -13,7 +13,7 @@ use Rattle.text.specs.Lists.{allOf, anyOf, upTo, past, onto, parts, isNil}
 use Rattle.text.proofs.Basics.{no-case, parts-some}
 use Rattle.terms.specs.declared.Mode.{Mode}
 use Rattle.terms.specs.declared.Mode.the-variants.{Out, OutGrave, In, InGrave}
-use Rattle.terms.specs.Signs.{Sign, bare, escaped, quote, quoted, quotedEscaped, isBare, twelve, two, after, gives, atEnd, signs}
+use Rattle.terms.specs.Signs.{Sign, bare, escaped, quote, quoted, quotedEscaped, isBare, twelve, after, gives, atEnd, signs}
 use Rattle.forms.specs.declared.At.{At}
 use Rattle.forms.specs.declared.At.the-variants.{Start, Plain, Inside, Ended, Dead}
 use Rattle.forms.specs.Forms.{isPlainSign, endsQuote, isText, itemsIn, isList}

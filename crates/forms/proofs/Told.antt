@@ -1,21 +1,20 @@
 -- What an answer of the code tells the layers above of a text's parts, by their places. Assumes nothing.
-use Prim.Native.Nat.{ℕ, zero, suc, _+_, _-_, _<_, _≤_}
+use Prim.Native.Nat.{ℕ, _<_, _≤_}
 use mathlib.Core.Path.{_≡_, refl, sym, ap, _∙_, subst}
-use mathlib.Core.List.{List, [], _∷_, _++_, map}
-use mathlib.Core.Bool.{Bool, true, false, cond, not, _&&_, _||_}
+use mathlib.Core.List.{List, [], _∷_, map}
+use mathlib.Core.Bool.{Bool, true, false}
 use mathlib.Core.Option.{Option, none, some}
 use native.Mathlib.Omega.{arith}
 use lib.ListN.{length, getD, take, drop}
 use lib.Seq.{length-take-le}
 use lib.Dec.{eqb}
-use borrow.Author.Tests.{eqb-true, ne-eqb}
+use borrow.Author.Tests.{eqb-true}
 use Rattle.text.proofs.Basics.{no-case, none-some, cond-some}
 use Rattle.terms.specs.declared.Mode.the-variants.{Out}
-use Rattle.terms.specs.Signs.{Sign, signs, stands}
-use Rattle.forms.specs.declared.Shape.{Shape}
+use Rattle.terms.specs.Signs.{signs, stands}
 use Rattle.forms.specs.declared.Shape.the-variants as shape
 use Rattle.forms.specs.Forms.{isText, itemsIn, isList, listOf, textOf, Value, one, many, valueOf, Said, alone, equals, matches, Property, property, propertyOf}
-use Rattle.forms.specs.Answers.{isSome, operatorOf, shapeOf, textIn, propertyIn, isValueIn, areEntriesIn}
+use Rattle.forms.specs.Answers.{isSome, operatorOf, shapeOf, propertyIn, isValueIn}
 use Rattle.forms.proofs.ValueLaws.{starts-byte}
 use Rattle.forms.proofs.PropertyLaws.{Named, Valued, property-case}
 use Rattle.terms.proofs.TermLaws.{bare-signs}

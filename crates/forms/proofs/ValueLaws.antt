@@ -1,20 +1,18 @@
 -- A value by its first byte. Assumes nothing.
-use Prim.Native.Nat.{ℕ, zero, suc, _+_, _-_, _<_, _≤_}
+use Prim.Native.Nat.{ℕ, zero, suc, _-_}
 use mathlib.Core.Path.{_≡_, refl, sym, ap, _∙_}
 use mathlib.Core.List.{List, [], _∷_, _++_, map}
-use mathlib.Core.Bool.{Bool, true, false, cond, not, _&&_, _||_}
-use mathlib.Core.Option.{Option, none, some}
+use mathlib.Core.Bool.{Bool, true, false, cond}
+use mathlib.Core.Option.{none, some}
 use native.Mathlib.Omega.{arith}
-use lib.ListN.{length, getD, take, drop, length-take}
-use lib.Dec.{eqb, leb}
+use lib.ListN.{length, getD, take, drop}
+use lib.Dec.{eqb}
 use borrow.Author.Tests.{eqb-true, ne-eqb}
-use Rattle.text.specs.Bytes.{bytes, oneOf}
 use Rattle.text.proofs.Slices.{part-from, drop-take}
-use Rattle.terms.specs.declared.Mode.{Mode}
-use Rattle.terms.specs.declared.Mode.the-variants.{Out, OutGrave, In, InGrave}
-use Rattle.terms.specs.Signs.{Sign, bare, escaped, quote, quoted, quotedEscaped, isBare, twelve, after, gives, signs, stands}
-use Rattle.forms.specs.Forms.{starts, isText, itemsIn, isList, listOf, textOf, Value, one, many, valueOf}
-use Rattle.forms.specs.Answers.{isSome, textIn, isValueIn}
+use Rattle.terms.specs.declared.Mode.the-variants.{Out, OutGrave}
+use Rattle.terms.specs.Signs.{signs, stands}
+use Rattle.forms.specs.Forms.{starts, isText, itemsIn, isList, listOf, textOf, one, many, valueOf}
+use Rattle.forms.specs.Answers.{isSome, isValueIn}
 use Rattle.terms.proofs.ByteCases.{out-case, grave-first}
 use Rattle.terms.proofs.TermLaws.{bare-signs}
 

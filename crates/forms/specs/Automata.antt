@@ -1,9 +1,9 @@
 -- Values as the code reads them, sign by sign in one pass. proofs/TextLaws has it that these are the forms of specs/Forms.
-use Prim.Native.Nat.{ℕ, zero, suc, _+_}
+use Prim.Native.Nat.{ℕ, suc}
 use mathlib.Core.List.{List, [], _∷_}
 use mathlib.Core.Bool.{Bool, true, false, cond, not, _&&_}
 use lib.Dec.{eqb, leb}
-use Rattle.text.specs.Lists.{isNil, walk}
+use Rattle.text.specs.Lists.{isNil}
 use Rattle.terms.specs.declared.Mode.{Mode}
 use Rattle.terms.specs.declared.Mode.the-variants.{Out, OutGrave, In, InGrave}
 use Rattle.terms.specs.Signs.{Sign, bare, escaped, quote, quoted, quotedEscaped, isBare, after, atEnd}

@@ -2,10 +2,10 @@
 -- Assumes nothing.
 use Prim.Native.Nat.{ℕ, zero, suc, _+_, _<_, _≤_, min}
 use native.Mathlib.Omega.{arith}
-use mathlib.Core.Path.{_≡_, refl, sym, ap, _∙_, subst}
-use mathlib.Core.List.{List, [], _∷_, _++_, flatten, append-assoc, append-nil, foldl-append}
-use mathlib.Core.Bool.{Bool, true, false, _||_, cond, false≢true, true≢false}
-use mathlib.Core.Logic.{_⊎_, inl, inr, ⊎-elim}
+use mathlib.Core.Path.{_≡_, refl, sym, ap, _∙_}
+use mathlib.Core.List.{List, [], _∷_, _++_, flatten, append-assoc}
+use mathlib.Core.Bool.{Bool, true, false, _||_, cond, false≢true}
+use mathlib.Core.Logic.{⊎-elim}
 use lib.ListN.{length, take, drop, set, length-set, length-append, length-drop}
 use lib.Seq.{take-all, take-suc-set, take-append-le, set-out}
 use lib.Dec.{ltb, leb}
@@ -15,11 +15,11 @@ use borrow.Author.Tests.{lt-ltb, le-ltb, le-leb, lt-leb, ltb-true, ltb-false, eq
 use Rattle.joiner.specs.declared.Joiner.{Joiner}
 use Rattle.joiner.specs.declared.Outcome.{Outcome}
 use Rattle.joiner.specs.declared.Outcome.the-variants.{More, Line, Refused}
-use Rattle.joiner.specs.Step.{byteStep, stepBy, st, start, reachable, more, stored, lineOf, stateAfter, Step}
+use Rattle.joiner.specs.Step.{byteStep, stepBy, st, start, more, stored, lineOf, stateAfter, Step}
 use Rattle.joiner.specs.declared.End.the-variants
-use Rattle.joiner.specs.Join.{Ran, ran, run, joinOf, endOf}
-use Rattle.joiner.specs.Lines.{Kind, CR, LF, GRAVE, plain, kindOf, Given, line, refused, Open, open′, begin, Next, lineOrRefused, nextBy, next, linesFrom, linesOf}
-use Rattle.joiner.specs.Lines.{Ending, cut, nothing, openAfter, endingFrom, endingOf}
+use Rattle.joiner.specs.Join.{Ran, run, joinOf, endOf}
+use Rattle.joiner.specs.Lines.{Kind, CR, LF, GRAVE, plain, kindOf, Given, line, refused, Open, open′, Next, lineOrRefused, nextBy, next, linesFrom, linesOf}
+use Rattle.joiner.specs.Lines.{cut, nothing, openAfter, endingFrom, endingOf}
 use Rattle.joiner.specs.Calls.{givenOf, endAs, Calls, done, onward, call}
 use Rattle.joiner.proofs.Laws.{isMore, cons-more, cons-stop}
 use Rattle.joiner.proofs.Reach.{Fine, fine-start, fine-step, of-fine, room, more-room, more-full}

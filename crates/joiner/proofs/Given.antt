@@ -3,14 +3,14 @@
 -- Assumes nothing.
 use Prim.Native.Nat.{ℕ, _<_, _≤_}
 use native.Mathlib.Omega.{arith}
-use mathlib.Core.Path.{_≡_, refl, sym, ap, _∙_}
+use mathlib.Core.Path.{_≡_, refl, ap, _∙_}
 use mathlib.Core.List.{List, [], _∷_, _++_}
 use mathlib.Core.Bool.{Bool, true, false, not, _&&_, _||_, cond, false≢true, true≢false}
 use lib.ListN.{length, take}
 use lib.Seq.{length-take-le}
 use lib.Dec.{ltb, eqb}
 use borrow.Author.Tests.{ltb-true, ltb-false}
-use Rattle.joiner.specs.Lines.{Kind, CR, LF, GRAVE, plain, kindOf, isPlain, Given, line, refused, lineOrRefused, Open, open′, begin, Next, nextBy, next, linesFrom, linesOf}
+use Rattle.joiner.specs.Lines.{Kind, CR, LF, GRAVE, plain, kindOf, isPlain, Given, line, refused, lineOrRefused, Open, begin, Next, nextBy, next, linesFrom, linesOf}
 use Rattle.joiner.specs.Lines.{waitsAfter, dangling, holdsEnd}
 
 -- ---- statements of every line

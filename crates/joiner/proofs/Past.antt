@@ -2,12 +2,12 @@
 -- Assumes nothing.
 use Prim.Native.Nat.{ℕ, suc, _+_, _-_, _<_, _≤_}
 use native.Mathlib.Omega.{arith}
-use native.Mathlib.Nat.{le-refl, add-sub-of-le}
+use native.Mathlib.Nat.{le-refl}
 use native.Mathlib.Numerals.{add-one}
 use mathlib.Core.Path.{_≡_, refl, sym, ap, _∙_}
 use mathlib.Core.List.{List, [], _∷_}
 use mathlib.Core.Bool.{Bool, true, false, _&&_, cond, false≢true, true≢false}
-use mathlib.Core.Logic.{_⊎_, inl, inr, ⊎-elim}
+use mathlib.Core.Logic.{⊎-elim}
 use lib.ListN.{length, drop, set, length-set}
 use lib.Dec.{eqb}
 use borrow.Author.Tests.{eqb-true, eq-eqb}
@@ -16,7 +16,7 @@ use Rattle.joiner.specs.declared.Joiner.{Joiner}
 use Rattle.joiner.specs.declared.Outcome.{Outcome}
 use Rattle.joiner.specs.declared.Outcome.the-variants.{More, Line, Refused}
 use Rattle.joiner.specs.Lines.{Kind, CR, LF, GRAVE, plain, kindOf}
-use Rattle.joiner.specs.Step.{byteStep, stepBy, st, more, stored, lineOf, reachable}
+use Rattle.joiner.specs.Step.{byteStep, stepBy, st, more, stored, reachable}
 use Rattle.joiner.specs.Join.{Ran, ran, run, joinOf}
 use Rattle.joiner.proofs.Laws.{isMore, cons-more, cons-stop}
 use Rattle.joiner.proofs.Reach.{Fine, to-fine, of-fine, fine-step, room, more-room, more-full}

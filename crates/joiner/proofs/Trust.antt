@@ -3,14 +3,14 @@
 -- Assumes nothing.
 use Prim.Native.Nat.{ℕ}
 use mathlib.Core.Path.{_≡_, refl, sym, ap, _∙_}
-use mathlib.Core.List.{List, [], _∷_, _++_, flatten, append-assoc, append-nil, foldl-append}
+use mathlib.Core.List.{List, [], _∷_, _++_, flatten, append-assoc, foldl-append}
 use mathlib.Core.Bool.{Bool, true, false, not, _&&_, _||_, cond, false≢true}
 use lib.ListN.{length, take, drop}
 use lib.Seq.{take-append-seam, drop-append-seam}
 use lib.Dec.{eqb}
 use Rattle.joiner.specs.declared.Joiner.{Joiner}
 use Rattle.joiner.specs.Lines.{Kind, CR, LF, GRAVE, plain, kindOf, Given, lineOrRefused, Open, open′, begin, Next, nextBy, next, linesFrom, linesOf}
-use Rattle.joiner.specs.Lines.{Ending, openAfter, endingFrom, endingOf, trusted, freshAfter}
+use Rattle.joiner.specs.Lines.{openAfter, endingFrom, endingOf, trusted, freshAfter}
 use Rattle.joiner.specs.Step.{start}
 use Rattle.joiner.specs.Join.{endOf}
 use Rattle.joiner.specs.Calls.{Calls, endAs}

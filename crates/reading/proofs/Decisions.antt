@@ -2,32 +2,29 @@
 use Prim.Native.Nat.{ℕ, _-_, _≤_, _<_}
 use mathlib.Core.Path.{_≡_, refl, sym, ap, _∙_}
 use mathlib.Core.List.{List, [], _∷_}
-use mathlib.Core.Bool.{Bool, true, false, cond, not, _&&_}
+use mathlib.Core.Bool.{Bool, true, false, cond}
 use mathlib.Core.Option.{Option, none, some}
 use native.Mathlib.Omega.{arith}
 use lib.ListN.{length, take, drop, getD}
-use lib.Dec.{leb}
 use borrow.Author.Tests.{le-leb, lt-leb}
-use Rattle.text.specs.Lists.{isNil, anyOf}
 use Rattle.text.specs.Bytes.{bytes, sameBytes}
 use Rattle.text.proofs.Slices.{part-from}
 use Rattle.terms.specs.declared.Mode.the-variants.{Out}
-use Rattle.terms.specs.Signs.{Sign, signs, raws, hasBare}
-use Rattle.terms.specs.Marks.{startsBare, firstBare}
+use Rattle.terms.specs.Signs.{signs, raws, hasBare}
+use Rattle.terms.specs.Marks.{startsBare}
 use Rattle.terms.proofs.TermLaws.{raws-signs}
 use Rattle.words.specs.declared.Known.{Known}
 use Rattle.words.specs.declared.Known.the-variants.{Is, Unknown}
 use Rattle.words.specs.declared.Kind.{Kind}
 use Rattle.words.specs.declared.Kind.the-variants.{Mere, Keep, Level, Place, Entries}
 use Rattle.words.specs.Tables.{known}
-use Rattle.words.specs.Words.{names, find, or, longNames, shortNames, verbOf, optionOf, kindOf}
-use Rattle.forms.specs.declared.Shape.{Shape}
+use Rattle.words.specs.Words.{names, find, longNames, shortNames, verbOf, optionOf, kindOf}
 use Rattle.forms.specs.declared.Where.{Where}
 use Rattle.forms.specs.declared.Where.the-variants as where′
-use Rattle.forms.specs.Forms.{starts, hasEq, Entry, isKeep, isLevel, isPlace, entriesOf, Property, propertyOf, topicOf}
+use Rattle.forms.specs.Forms.{starts, Entry, isKeep, isLevel, isPlace, entriesOf, Property, propertyOf, topicOf}
 use Rattle.forms.specs.Targets.{Target, session, path, targetOf}
-use Rattle.forms.specs.Answers.{isSome, shapeOf, whereOf, propertyIn, topicIn, areEntriesIn, targetIn}
-use Rattle.reading.specs.declared.Phase.the-variants.{First, Options, Waits, Rest}
+use Rattle.forms.specs.Answers.{isSome, shapeOf, whereOf, topicIn, targetIn}
+use Rattle.reading.specs.declared.Phase.the-variants.{Options, Rest}
 use Rattle.reading.specs.declared.Shown.the-variants as shown
 use Rattle.reading.specs.declared.Decided.{Decided}
 use Rattle.reading.specs.declared.Decided.the-variants.{Takes, Refuses}

@@ -1,7 +1,6 @@
 -- Document 01's thirteen lines, proved together by computation.
-use Prim.Native.Nat.{ℕ}
 use Prim.Native.String.{String}
-use mathlib.Core.List.{List, map}
+use mathlib.Core.List.{map}
 use mathlib.Core.Path.{_≡_, refl}
 use Rattle.text.specs.Bytes.{bytes, oneOf, sameBytes, isWord}
 use Rattle.text.specs.Lists.{allOf, anyOf, upTo, past, runLen, parts, walk, every}

@@ -1,23 +1,19 @@
 -- What a caller makes of a reading, step by step: its size, its records, its target. And a whole line from its first term on. Assumes nothing.
-use Prim.Native.Nat.{ℕ, zero, suc, _+_, _-_, _*_, _<_, _≤_}
+use Prim.Native.Nat.{ℕ, _+_, _<_, _≤_}
 use mathlib.Core.Path.{_≡_, refl, sym, ap, _∙_}
 use mathlib.Core.List.{List, [], _∷_, _++_}
-use mathlib.Core.Bool.{Bool, true, false, cond}
+use mathlib.Core.Bool.{true, false, cond}
 use native.Mathlib.Omega.{arith}
-use lib.ListN.{length, take, drop, length-append}
+use lib.ListN.{length, length-append}
 use lib.Seq.{sets}
-use lib.Dec.{leb, ltb}
-use borrow.Author.Tests.{ltb-false}
-use Rattle.text.specs.declared.Answer.{Answer}
 use Rattle.text.specs.declared.Answer.the-variants as answer
 use Rattle.text.specs.declared.Verdict.{Verdict}
 use Rattle.text.specs.declared.Verdict.the-variants.{Fine, Flawed}
 use Rattle.text.specs.Lists.{isNil}
-use Rattle.text.specs.Room.{fitted, filled}
 use Rattle.text.proofs.Basics.{no-case}
-use Rattle.text.proofs.Writes.{sets-append, fitted-room, fitted-none, filled-none, filled-sets}
+use Rattle.text.proofs.Writes.{fitted-room, fitted-none, filled-none, filled-sets}
 use Rattle.terms.specs.Terms.{Term, termsOf}
-use Rattle.terms.specs.Rows.{orElse, longFlaw, oddFlaw, openFlaw, manyFlaw, lexicalOf}
+use Rattle.terms.specs.Rows.{lexicalOf}
 use Rattle.words.specs.declared.Kind.{Kind}
 use Rattle.words.specs.declared.Kind.the-variants.{Mere, Keep, Level, Place, Entries}
 use Rattle.words.specs.Words.{kindOf}
@@ -25,9 +21,8 @@ use Rattle.reading.specs.declared.State.{State}
 use Rattle.reading.specs.declared.Cursor.{Cursor}
 use Rattle.reading.specs.declared.Shown.{Shown}
 use Rattle.reading.specs.declared.Shown.the-variants as shown
-use Rattle.reading.specs.declared.Span.{Span}
 use Rattle.reading.specs.Command.{Item, verb, option, argument, target, prop}
-use Rattle.reading.specs.Reading.{Decision, refuses, takes, decide, next, begin, Part, Reading, refusal, read, adding, going, partOf, walkTerms, unless, readingOf}
+use Rattle.reading.specs.Reading.{Decision, refuses, takes, decide, next, begin, Part, Reading, refusal, read, adding, going, partOf, walkTerms, readingOf}
 use Rattle.reading.specs.Records.{recordOf, recordsOf, readRecords, answerIn, roomIn, span, targetSpan, targetIn}
 use Rattle.reading.specs.Cursor.{shownOf, left, start}
 use Rattle.reading.specs.Shown.{verdictIn, neededIn, recordShown, optionSize, recordSize, recordsIn, totalFrom, bytesIn, isTarget}

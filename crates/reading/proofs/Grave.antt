@@ -2,13 +2,13 @@
 use Prim.Native.Nat.{ℕ}
 use mathlib.Core.Path.{_≡_, refl, sym, ap, _∙_}
 use mathlib.Core.List.{List, [], _∷_}
-use mathlib.Core.Bool.{Bool, true, false, cond, not, _&&_}
+use mathlib.Core.Bool.{Bool, true, false, not, _&&_}
 use native.Mathlib.Omega.{arith}
 use lib.Dec.{eqb}
 use Rattle.text.specs.Lists.{walk, allOf}
 use Rattle.text.proofs.Basics.{and-l, and-r, no-case}
 use Rattle.terms.specs.declared.Mode.{Mode}
-use Rattle.terms.specs.declared.Mode.the-variants.{Out, OutGrave, In, InGrave}
+use Rattle.terms.specs.declared.Mode.the-variants.{Out}
 use Rattle.terms.specs.Signs.{after}
 use Rattle.terms.specs.Rows.{endMode}
 use Rattle.terms.proofs.RowLaws.{isGrave, lone-is, row-3}

@@ -1,29 +1,27 @@
 -- The positions that the records of a reading name lie inside the line, each within its own part. Assumes nothing.
-use Prim.Native.Nat.{ℕ, zero, suc, _+_, _-_, _<_, _≤_}
+use Prim.Native.Nat.{ℕ, _+_, _-_, _<_, _≤_}
 use mathlib.Core.Path.{_≡_, refl, sym, ap, _∙_}
 use mathlib.Core.List.{List, [], _∷_, _++_}
-use mathlib.Core.Bool.{Bool, true, false, cond, not, _&&_, _||_}
-use mathlib.Core.Option.{Option, none, some}
+use mathlib.Core.Bool.{Bool, true, false, cond}
+use mathlib.Core.Option.{some}
 use native.Mathlib.Omega.{arith}
-use lib.ListN.{length, drop, getD, length-append}
-use lib.Dec.{eqb, leb}
+use lib.ListN.{length, length-append}
+use lib.Dec.{leb}
 use borrow.Author.Tests.{le-leb, leb-true}
-use Rattle.text.specs.Lists.{allOf, anyOf, upTo, past, given}
-use Rattle.text.proofs.Basics.{and-l, and-r, and-in, all-mono, no-case, Given, given-some, cond-some, same-some}
-use Rattle.terms.specs.Signs.{Sign, bare, escaped, quote, quoted, quotedEscaped, raw, raws, isBare}
+use Rattle.text.specs.Lists.{allOf, anyOf, upTo, past}
+use Rattle.text.proofs.Basics.{and-l, and-r, and-in, all-mono, no-case}
+use Rattle.terms.specs.Signs.{Sign, bare, raw, raws, isBare}
 use Rattle.terms.specs.Terms.{Term, termsOf}
 use Rattle.words.specs.declared.Kind.{Kind}
 use Rattle.words.specs.declared.Kind.the-variants.{Mere, Keep, Level, Place, Entries}
-use Rattle.words.specs.Words.{verbOf, optionOf, kindOf}
-use Rattle.forms.specs.Forms.{starts, hasEq, isName, Value, valueOf, Said, alone, equals, matches, Property, property, saidOf, propertyOf, topicOf}
-use Rattle.forms.specs.Targets.{targetOf}
+use Rattle.words.specs.Words.{kindOf}
+use Rattle.forms.specs.Forms.{starts, Said, alone, equals, matches, Property, property, saidOf, propertyOf, topicOf}
 use Rattle.forms.specs.Answers.{operatorOf}
 use Rattle.reading.specs.declared.Phase.{Phase}
-use Rattle.reading.specs.declared.Phase.the-variants.{First, Options, Waits, Rest}
 use Rattle.reading.specs.declared.State.{State}
 use Rattle.reading.specs.declared.Span.{Span}
-use Rattle.reading.specs.Command.{argumentBy, Item, verb, option, argument, target, prop}
-use Rattle.reading.specs.Reading.{begin, refuses, takes, orNo, notSeen, decideVerb, decideOption, decideArgument, decideTarget, decideProperty, decideAfter, decideIn, decide, next, Part, read, partOf, walkTerms, readingOf}
+use Rattle.reading.specs.Command.{Item, verb, option, argument, target, prop}
+use Rattle.reading.specs.Reading.{begin, takes, decideIn, decide, next, Part, read, partOf, walkTerms, readingOf}
 use Rattle.reading.specs.Records.{span, optionRecord, recordOf}
 use Rattle.reading.specs.Inside.{partsInOrder, valueSpan, optionSpans, spansOf, isWithin, namesItself, isInside, recordFrom}
 use Rattle.reading.proofs.TakenCases.{taken-case}

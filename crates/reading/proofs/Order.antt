@@ -1,8 +1,8 @@
 -- "Each is given exactly when its row holds and no earlier one does": of a term, and of a line. Assumes nothing.
-use Prim.Native.Nat.{ℕ, _<_, _≤_}
+use Prim.Native.Nat.{ℕ}
 use mathlib.Core.Path.{_≡_, refl, sym, ap, _∙_}
 use mathlib.Core.List.{List, [], _∷_, _++_}
-use mathlib.Core.Bool.{Bool, true, false, cond, not, _&&_, _||_}
+use mathlib.Core.Bool.{Bool, true, false, cond, not, _&&_}
 use mathlib.Core.Option.{Option, none, some}
 use native.Mathlib.Omega.{arith}
 use lib.ListN.{length, drop, getD}
@@ -15,15 +15,15 @@ use Rattle.terms.specs.Signs.{Sign, raws}
 use Rattle.terms.specs.Terms.{Term, termsOf}
 use Rattle.terms.specs.Rows.{lexicalOf}
 use Rattle.words.specs.Words.{verbOf, optionOf, kindOf}
-use Rattle.forms.specs.Forms.{starts, hasEq, Property, propertyOf, topicOf}
-use Rattle.forms.specs.Targets.{Target, targetOf}
+use Rattle.forms.specs.Forms.{starts, hasEq, propertyOf, topicOf}
+use Rattle.forms.specs.Targets.{targetOf}
 use Rattle.forms.specs.Answers.{isSome}
 use Rattle.reading.specs.declared.Phase.{Phase}
 use Rattle.reading.specs.declared.Phase.the-variants.{First, Options, Waits, Rest}
 use Rattle.reading.specs.declared.State.{State}
-use Rattle.reading.specs.Command.{Argument, argumentBy, Item, verb, option, argument, target, prop}
-use Rattle.reading.specs.Reading.{begin, Decision, refuses, takes, orNo, notSeen, decideVerb, decideOption, decideArgument, decideTarget, decideProperty, decideAfter, decideIn, decide, next, Part, Reading, refusal, read, adding, ended, partOf, going, walkTerms, unless, readingOf}
-use Rattle.reading.specs.Order.{isSeen, isWaits, holdsIn, holds, order, isFirstOf, stateOn, stateAfter, Refused, byLine, byTerm, byEnd}
+use Rattle.reading.specs.Command.{argumentBy, Item, verb, option, argument, target, prop}
+use Rattle.reading.specs.Reading.{begin, Decision, refuses, takes, orNo, notSeen, decideVerb, decideOption, decideArgument, decideTarget, decideProperty, decideAfter, decideIn, decide, next, Part, Reading, refusal, read, adding, ended, partOf, walkTerms, readingOf}
+use Rattle.reading.specs.Order.{isSeen, isWaits, holdsIn, holds, order, isFirstOf, stateAfter, Refused, byLine, byTerm, byEnd}
 
 -- ---- the first row of a list that holds
 

@@ -1,8 +1,8 @@
 -- The parts of a reading stand in line order, each inside the line and none empty; so does its target. Assumes nothing.
-use Prim.Native.Nat.{ℕ, zero, suc, _+_, _-_, _<_, _≤_}
-use mathlib.Core.Path.{_≡_, refl, sym, ap, _∙_}
+use Prim.Native.Nat.{ℕ, _+_, _<_, _≤_}
+use mathlib.Core.Path.{_≡_, refl}
 use mathlib.Core.List.{List, [], _∷_}
-use mathlib.Core.Bool.{Bool, true, false, _&&_}
+use mathlib.Core.Bool.{true, _&&_}
 use native.Mathlib.Omega.{arith}
 use lib.ListN.{length}
 use lib.Dec.{leb, ltb}
@@ -17,9 +17,8 @@ use Rattle.terms.proofs.TermLaws.{in-order}
 use Rattle.reading.specs.declared.Phase.{Phase}
 use Rattle.reading.specs.declared.Phase.the-variants.{First, Options, Waits, Rest}
 use Rattle.reading.specs.declared.State.{State}
-use Rattle.reading.specs.declared.Span.{Span}
 use Rattle.reading.specs.Command.{Item, verb, option, argument, target, prop}
-use Rattle.reading.specs.Reading.{begin, Decision, refuses, takes, decide, next, Part, Reading, refusal, read, adding, ended, partOf, walkTerms, unless, readingOf}
+use Rattle.reading.specs.Reading.{begin, Decision, refuses, takes, decide, next, Part, Reading, refusal, read, adding, ended, partOf, walkTerms, readingOf}
 use Rattle.reading.specs.Records.{targetOr, targetSpan, targetIn, span}
 use Rattle.reading.specs.Inside.{partsInOrder}
 

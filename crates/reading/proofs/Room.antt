@@ -1,33 +1,30 @@
 -- "A reading takes at most 399 bytes." Assumes nothing.
 use Prim.Native.Nat.{ℕ, zero, suc, _+_, _-_, _*_, _<_, _≤_}
 use mathlib.Core.Path.{_≡_, refl, sym, ap, _∙_}
-use mathlib.Core.List.{List, [], _∷_, _++_}
-use mathlib.Core.Bool.{Bool, true, false, cond, not, _&&_}
-use mathlib.Core.Option.{Option, none, some}
+use mathlib.Core.List.{List, [], _∷_}
+use mathlib.Core.Bool.{Bool, true, false}
+use mathlib.Core.Option.{some}
 use native.Mathlib.Omega.{arith}
 use lib.ListN.{length, drop, getD, set, length-set, length-append}
-use lib.Dec.{leb}
-use borrow.Author.Tests.{leb-false}
 use Rattle.text.specs.declared.Answer.the-variants.{Wrote}
 use Rattle.text.proofs.Basics.{no-case}
 use Rattle.terms.specs.Signs.{Sign, raws}
 use Rattle.terms.specs.Terms.{Term, termsOf}
 use Rattle.words.specs.declared.Kind.{Kind}
 use Rattle.words.specs.declared.Kind.the-variants.{Mere, Keep, Level, Place, Entries}
-use Rattle.words.specs.Words.{verbOf, optionOf, kindOf}
+use Rattle.words.specs.Words.{optionOf, kindOf}
 use Rattle.words.proofs.WordLaws.{option-only-name}
-use Rattle.forms.specs.Forms.{starts, hasEq, Property, topicOf, propertyOf}
-use Rattle.forms.specs.Targets.{targetOf}
+use Rattle.forms.specs.Forms.{Property}
 use Rattle.reading.specs.declared.Phase.{Phase}
 use Rattle.reading.specs.declared.Phase.the-variants.{First, Options, Waits, Rest}
 use Rattle.reading.specs.declared.State.{State}
-use Rattle.reading.specs.Command.{argumentBy, Item, verb, option, argument, target, prop}
-use Rattle.reading.specs.Reading.{state, begin, refuses, takes, orNo, notSeen, decideVerb, decideOption, decideArgument, decideTarget, decideProperty, decideAfter, decideIn, decide, phaseAfter, next, Part, Reading, refusal, read, partOf, walkTerms, readingOf}
+use Rattle.reading.specs.Command.{Item, verb, option, argument, target, prop}
+use Rattle.reading.specs.Reading.{state, begin, takes, decideIn, decide, phaseAfter, next, Part, Reading, refusal, read, partOf, walkTerms, readingOf}
 use Rattle.reading.specs.Records.{optionRecord, recordOf, recordsOf, readRecords}
 use Rattle.reading.specs.Cursor.{shownOf}
-use Rattle.reading.specs.Shown.{neededIn, recordShown, recordSize}
+use Rattle.reading.specs.Shown.{neededIn}
 use Rattle.reading.proofs.Steps.{record-shown, record-size}
-use Rattle.reading.proofs.PartOrder.{ended-nil, Taken, walk-taken, read-walk}
+use Rattle.reading.proofs.PartOrder.{ended-nil, walk-taken, read-walk}
 use Rattle.reading.proofs.TakenCases.{taken-case}
 
 -- options that may still be given

@@ -1,31 +1,30 @@
 -- A reading taken one step at a time: what each step of a cursor says of what is left of a line. Every loop over `Cursor::next` cites these.
 -- Assumes nothing.
-use Prim.Native.Nat.{ℕ, zero, suc, _+_, _-_, _<_, _≤_}
+use Prim.Native.Nat.{ℕ, suc, _+_, _-_, _<_, _≤_}
 use mathlib.Core.Path.{_≡_, refl, sym, ap, _∙_}
 use mathlib.Core.List.{List, [], _∷_, _++_}
-use mathlib.Core.Bool.{Bool, true, false, cond, not, _&&_}
-use mathlib.Core.Option.{Option, none, some}
+use mathlib.Core.Bool.{Bool, true, false, cond, _&&_}
+use mathlib.Core.Option.{Option, some}
 use native.Mathlib.Omega.{arith}
-use lib.ListN.{length, take, drop, getD, length-append}
+use lib.ListN.{length, take, drop}
 use lib.Dec.{eqb, leb}
-use borrow.Author.Tests.{leb-true, leb-false}
-use Rattle.text.specs.Lists.{given, allOf, upTo, past}
+use borrow.Author.Tests.{leb-true}
+use Rattle.text.specs.Lists.{given, allOf}
 use Rattle.text.specs.Room.{two}
 use Rattle.text.specs.Bytes.{isLetter, isWord}
 use Rattle.text.proofs.Slices.{part-from}
-use Rattle.text.proofs.Basics.{and-l, and-r, Given, given-some, cond-some, same-some}
+use Rattle.text.proofs.Basics.{and-r, Given}
 use Rattle.terms.specs.declared.Mode.the-variants.{Out}
 use Rattle.terms.specs.declared.Found.{Found}
 use Rattle.terms.specs.declared.Found.the-variants as found
-use Rattle.terms.specs.Signs.{Sign, signs, raws, isBare}
-use Rattle.terms.specs.Terms.{Term, termsFrom, termsOf}
+use Rattle.terms.specs.Signs.{Sign, signs}
+use Rattle.terms.specs.Terms.{Term}
 use Rattle.terms.specs.Scan.{termAt}
 use Rattle.terms.proofs.TermLaws.{terms-some, terms-none, term-within, term-size}
 use Rattle.words.specs.declared.Kind.{Kind}
 use Rattle.words.specs.declared.Kind.the-variants.{Mere, Keep, Level, Place, Entries}
-use Rattle.words.specs.Words.{verbOf, optionOf, kindOf}
-use Rattle.forms.specs.Forms.{starts, hasEq, isName, Said, alone, equals, matches, Property, saidOf, propertyOf, topicOf}
-use Rattle.forms.specs.Targets.{targetOf}
+use Rattle.words.specs.Words.{kindOf}
+use Rattle.forms.specs.Forms.{isName, Said, alone, equals, matches, Property, propertyOf, topicOf}
 use Rattle.forms.specs.Answers.{operatorOf}
 use Rattle.reading.specs.declared.Phase.{Phase}
 use Rattle.reading.specs.declared.Phase.the-variants.{First, Options, Waits, Rest}
@@ -33,14 +32,13 @@ use Rattle.reading.specs.declared.State.{State}
 use Rattle.reading.specs.declared.Shown.{Shown}
 use Rattle.reading.specs.declared.Shown.the-variants as shown
 use Rattle.reading.specs.declared.Decided.{Decided}
-use Rattle.reading.specs.declared.Decided.the-variants.{Takes, Refuses}
 use Rattle.reading.specs.declared.Cursor.{Cursor}
 use Rattle.reading.specs.declared.Given as declared
 use Rattle.reading.specs.declared.Given.the-variants as gives
 use Rattle.reading.specs.declared.Step.{Step}
-use Rattle.reading.specs.Command.{Item, verb, option, argument, target, prop, argumentBy}
-use Rattle.reading.specs.Reading.{state, begin, Decision, refuses, takes, orNo, notSeen, decideVerb, decideOption, decideArgument, decideTarget, decideProperty, decideAfter, decideIn, decide, next, Part, Reading, refusal, read, adding, ended, partOf, going, walkTerms, unless, readingOf}
-use Rattle.reading.specs.Records.{optionRecord, valueRecord, recordOf, recordsOf}
+use Rattle.reading.specs.Command.{Item, verb, option, argument, target, prop}
+use Rattle.reading.specs.Reading.{state, Decision, refuses, takes, decideIn, decide, next, Part, refusal, read, adding, ended, going, walkTerms}
+use Rattle.reading.specs.Records.{optionRecord, valueRecord, recordOf}
 use Rattle.reading.specs.Cursor.{shownOf, decidedOf, nextShown, cursor, step, givenOn, givenEnd, givenAt, givenOf, cursorAfter, stepOf, left, start}
 use Rattle.reading.specs.Shown.{valueShown, recordShown, optionSize, recordSize, nameSize, counted}
 use Rattle.reading.proofs.TakenCases.{taken-case}

@@ -1,7 +1,7 @@
 -- A reading taken one step at a time, as the code takes it: a cursor, and the item that a step gives.
 use Prim.Native.Nat.{ℕ, _+_}
-use mathlib.Core.List.{List, []}
-use mathlib.Core.Bool.{Bool, true, false}
+use mathlib.Core.List.{List}
+use mathlib.Core.Bool.{true}
 use lib.ListN.{length, take, drop, set}
 use lib.Dec.{eqb}
 use Rattle.terms.specs.declared.Mode.the-variants.{Out}

@@ -2,7 +2,7 @@
 use Prim.Native.Nat.{ℕ}
 use Prim.Native.String.{String}
 use mathlib.Core.List.{List, [], _∷_}
-use Rattle.reading.specs.Reading.{Reading, refusal, read, readingOf}
+use Rattle.reading.specs.Reading.{Reading, refusal, read}
 use Rattle.reading.specs.Records.{readRecords, refusalRecord}
 
 abbrev pub listed : Reading → List ℕ

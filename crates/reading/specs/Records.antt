@@ -1,10 +1,9 @@
 -- Records of a reading, and what a read into lent room answers.
 use Prim.Native.Nat.{ℕ, _+_, _-_}
 use mathlib.Core.List.{List, [], _∷_, _++_}
-use mathlib.Core.Bool.{Bool, true, false, cond}
 use lib.ListN.{length, take, drop}
 use Rattle.text.specs.declared.Answer.{Answer}
-use Rattle.text.specs.declared.Answer.the-variants.{Wrote, Refused}
+use Rattle.text.specs.declared.Answer.the-variants.{Refused}
 use Rattle.text.specs.Room.{two, fitted, filled}
 use Rattle.words.specs.declared.Kind.{Kind}
 use Rattle.words.specs.declared.Kind.the-variants.{Mere, Keep, Level, Place, Entries}

@@ -18,7 +18,7 @@ use Rattle.reading.specs.declared.Shown.{Shown}
 use Rattle.reading.specs.declared.Shown.the-variants as shown
 use Rattle.reading.specs.declared.Decided.{Decided}
 use Rattle.reading.specs.declared.Decided.the-variants.{Takes, Refuses}
-use Rattle.reading.specs.Reading.{Part, Reading, refusal, read}
+use Rattle.reading.specs.Reading.{Reading, refusal, read}
 use Rattle.reading.specs.Records.{optionRecord, recordsOf, readRecords}
 
 -- a reading's refusal, or that it has none

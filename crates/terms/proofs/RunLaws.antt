@@ -1,8 +1,8 @@
 -- A run of ordinary bytes, outside quotes, changes nothing but the place. Assumes nothing.
 use Prim.Native.Nat.{ℕ, suc, _+_, _-_, _<_, _≤_}
 use mathlib.Core.Path.{_≡_, refl, sym, ap, _∙_}
-use mathlib.Core.List.{List, [], _∷_, _++_}
-use mathlib.Core.Bool.{Bool, true, false, cond, not, _&&_, _||_}
+use mathlib.Core.List.{List, [], _∷_}
+use mathlib.Core.Bool.{Bool, true, false, cond, not, _&&_}
 use native.Mathlib.Omega.{arith}
 use lib.ListN.{length, take, drop}
 use lib.Seq.{drop-drop}
@@ -13,7 +13,7 @@ use Rattle.text.proofs.Scans.{run-within}
 use Rattle.text.proofs.Slices.{part-from, length-from}
 use Rattle.terms.specs.declared.Mode.the-variants.{Out}
 use Rattle.terms.specs.Signs.{after, gives, signs, isBare}
-use Rattle.terms.specs.Rows.{endMode, opens, openedAt}
+use Rattle.terms.specs.Rows.{endMode, openedAt}
 use Rattle.terms.specs.Scan.{termLen, ordinary}
 use borrow.Author.Tests.{not-true}
 

@@ -1,9 +1,9 @@
 -- Laws of signs and of terms, for every layer above. Assumes nothing.
 -- The terms of a line, taken one at a time: `termAt` gives the first, its signs are those of its own bytes, and the rest are the terms from its end on.
-use Prim.Native.Nat.{ℕ, zero, suc, _+_, _-_, _<_, _≤_}
+use Prim.Native.Nat.{ℕ, zero, suc, _+_, _<_, _≤_}
 use mathlib.Core.Path.{_≡_, refl, sym, ap, _∙_}
 use mathlib.Core.List.{List, [], _∷_, _++_, map, append-assoc, append-nil}
-use mathlib.Core.Bool.{Bool, true, false, cond, not}
+use mathlib.Core.Bool.{Bool, true, false, not}
 use native.Mathlib.Omega.{arith}
 use lib.ListN.{length, getD, take, drop, length-append, length-drop, drop-of-length-le, replicate}
 use lib.Seq.{drop-drop}
@@ -19,7 +19,7 @@ use Rattle.terms.specs.declared.Mode.{Mode}
 use Rattle.terms.specs.declared.Mode.the-variants.{Out, OutGrave, In, InGrave}
 use Rattle.terms.specs.declared.Found.{Found}
 use Rattle.terms.specs.declared.Found.the-variants as found
-use Rattle.terms.specs.Signs.{Sign, bare, escaped, quote, quoted, quotedEscaped, twelve, two, after, gives, atEnd, signs, raw, raws, standsFor, stands, meant, isBare, bares}
+use Rattle.terms.specs.Signs.{Sign, bare, escaped, quote, quoted, quotedEscaped, twelve, after, gives, atEnd, signs, raw, raws, standsFor, stands, meant, isBare, bares}
 use Rattle.terms.specs.Terms.{isGap, Term, termsFrom, termsOf}
 use Rattle.terms.specs.Rows.{endMode}
 use Rattle.terms.specs.Scan.{isSpace, gapByte, termLen, found, startAt, termAt}

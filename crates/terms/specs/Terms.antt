@@ -1,7 +1,7 @@
 -- Terms and escapes, second half: terms are parted by one or more unescaped spaces outside quotes; spaces at either end count for nothing.
 use Prim.Native.Nat.{ℕ, _+_}
 use mathlib.Core.List.{List, [], _∷_}
-use mathlib.Core.Bool.{Bool, true, false, cond, not, _&&_}
+use mathlib.Core.Bool.{Bool, true, cond, not, _&&_}
 use lib.ListN.{length}
 use Rattle.text.specs.Lists.{upTo}
 use Rattle.terms.specs.declared.Mode.the-variants.{Out}

@@ -1,12 +1,11 @@
 -- Laws of the classes of bytes. Assumes nothing.
 use Prim.Native.Nat.{ℕ, _<_, _≤_}
-use mathlib.Core.Path.{_≡_, refl, sym, ap, _∙_}
-use mathlib.Core.List.{List, [], _∷_}
+use mathlib.Core.Path.{_≡_, sym, ap, _∙_}
 use mathlib.Core.Bool.{Bool, true, false, not, _&&_, _||_, and-false}
 use native.Mathlib.Omega.{arith}
-use borrow.Author.Tests.{eq-eqb, ne-eqb, eqb-true, le-leb, lt-leb, leb-true}
+use borrow.Author.Tests.{ne-eqb, eqb-true, le-leb, lt-leb, leb-true}
 use lib.Dec.{eqb, leb}
-use Rattle.text.specs.Bytes.{oneOf, isLetter, isDigit, isWord, printable}
+use Rattle.text.specs.Bytes.{isLetter, isDigit, isWord, printable}
 use Rattle.text.proofs.Basics.{and-l, and-r, or-in-l, or-in-r, or-case, no-case}
 
 -- a byte between two bounds, and outside them

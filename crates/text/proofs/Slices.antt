@@ -1,10 +1,10 @@
 -- What a part of a slice holds. Assumes nothing.
 use Prim.Native.Nat.{ℕ, suc, zero, _+_, _-_, _<_, _≤_}
-use mathlib.Core.Path.{_≡_, refl, sym, ap, _∙_}
+use mathlib.Core.Path.{_≡_, sym, ap, _∙_}
 use mathlib.Core.List.{List, [], _∷_, _++_}
 use native.Mathlib.Omega.{arith}
 use lib.ListN.{length, getD, take, drop, length-drop, take-append-drop}
-use lib.Seq.{take-all, length-take-le, take-nil, drop-nil, take-take, drop-drop, getD-take, getD-drop}
+use lib.Seq.{take-all, length-take-le, take-nil, take-take, drop-drop, getD-take, getD-drop}
 
 -- what is left of the front of a list
 pub drop-take : {A : Type 0} (a n : ℕ) (l : List A) → drop a (take n l) ≡ take (n - a) (drop a l)

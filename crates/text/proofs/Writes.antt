@@ -9,8 +9,7 @@ use native.Mathlib.Omega.{arith}
 use borrow.Author.Tests.{le-leb, lt-leb, leb-true, leb-false}
 use lib.Dec.{leb}
 use lib.ListN.{length, getD, take, drop, set, length-set}
-use lib.Seq.{sets, length-sets, sets-eq, set-out, take-nil, take-suc, take-all, take-at, length-take-le}
-use Rattle.text.specs.declared.Answer.{Answer}
+use lib.Seq.{sets, length-sets, sets-eq, set-out, take-nil, take-suc, take-at, length-take-le}
 use Rattle.text.specs.declared.Answer.the-variants.{Wrote, Refused}
 use Rattle.text.specs.Room.{wrote, fitted, filled}
 

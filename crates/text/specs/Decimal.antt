@@ -1,7 +1,7 @@
 -- Decimal numbers: no leading zero but `0` itself, with an upper limit; too large is no number.
 use Prim.Native.Nat.{ℕ, _+_, _-_, _*_, _/_, _%_}
 use mathlib.Core.List.{List, [], _∷_}
-use mathlib.Core.Bool.{Bool, true, false, cond, not, _&&_, _||_}
+use mathlib.Core.Bool.{Bool, false, cond, not, _&&_, _||_}
 use lib.ListN.{drop}
 use lib.Dec.{eqb, leb, ltb}
 use Rattle.text.specs.declared.Number.{Number}

@@ -1,7 +1,7 @@
 -- Lent room: an answer fills its start and leaves its rest; where it does not fit, it is refused as 19 and nothing changes.
 use Prim.Native.Nat.{ℕ, _/_, _%_}
 use mathlib.Core.List.{List, [], _∷_, _++_}
-use mathlib.Core.Bool.{Bool, cond}
+use mathlib.Core.Bool.{cond}
 use lib.ListN.{length, drop}
 use lib.Dec.{leb}
 use Rattle.text.specs.declared.Answer.{Answer}

@@ -9,14 +9,13 @@ use borrow.Author.Tests.{le-leb, lt-leb, leb-true, leb-false, eq-eqb, ne-eqb}
 use lib.Dec.{leb}
 use lib.ListN.{length, take, drop}
 use lib.Seq.{take-take, length-take-le}
-use Rattle.text.specs.Bytes.{bytes, sameBytes, isLetter}
+use Rattle.text.specs.Bytes.{isLetter}
 use Rattle.text.specs.Lists.{parts, runLen}
-use Rattle.text.specs.Decimal.{valueFrom}
 use Rattle.text.proofs.Scans.{run-within}
 use Rattle.text.proofs.Slices.{part-between}
 use Rattle.forms.specs.declared.Piece.{Piece}
 use Rattle.forms.specs.declared.Piece.the-variants as piece
-use Rattle.forms.specs.Targets.{Segment, here, above, child, children, segmentOf, isSeparator, tagLen, isNumbered, isStarred}
+use Rattle.forms.specs.Targets.{Segment, here, above, child, children, segmentOf, isSeparator, tagLen}
 use Rattle.forms.specs.Answers.{pieceOf, segmentText, segmentAt}
 use Rattle.forms.proofs.SegmentLaws.{segment-text, segment-within, parts-last, parts-more}
 use Rattle.tree.specs.Tree.{records, parent}

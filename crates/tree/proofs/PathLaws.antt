@@ -16,7 +16,7 @@ use Rattle.text.specs.Lists.{allOf, anyOf, parts, each, between, isNil, runLen}
 use Rattle.text.specs.Decimal.{valueFrom, isDecimal, digits}
 use Rattle.text.specs.Room.{wrote}
 use Rattle.text.proofs.Basics.{and-l, and-r, and-in, or-l, or-r, or-in-l, or-in-r, no-case, neg-in, either, same-eq, same-refl, all-append, any-append, parts-between, all-none}
-use Rattle.text.proofs.Classes.{letter-bounds, digit-bounds, digit-no-letter, other-byte}
+use Rattle.text.proofs.Classes.{letter-bounds, digit-no-letter, other-byte}
 use Rattle.text.proofs.Decimals.{digits-all, digits-some, digits-first, digits-two, value-two}
 use Rattle.text.proofs.Slices.{drop-take}
 use Rattle.text.proofs.Writes.{filled-room}

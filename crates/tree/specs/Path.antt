@@ -1,11 +1,11 @@
 -- The full path of a node, written by going from parent to parent up to the root; the root's own is `/`.
 use Prim.Native.Nat.{ℕ, zero, suc}
 use mathlib.Core.List.{List, [], _∷_, _++_}
-use mathlib.Core.Bool.{Bool, cond}
+use mathlib.Core.Bool.{cond}
 use lib.ListN.{length}
 use lib.Dec.{ltb, eqb}
 use Rattle.text.specs.declared.Answer.{Answer}
-use Rattle.text.specs.declared.Answer.the-variants.{Wrote, Refused}
+use Rattle.text.specs.declared.Answer.the-variants.{Refused}
 use Rattle.text.specs.Decimal.{digits}
 use Rattle.text.specs.Room.{fitted, filled}
 use Rattle.tree.specs.declared.Checked.{Checked}

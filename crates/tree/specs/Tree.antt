@@ -2,7 +2,7 @@
 -- tag length (1), tag padded with zeros (16), number (2, high first). Node 0 is the root and has no record; record i is node i.
 use Prim.Native.Nat.{ℕ, zero, suc, _+_, _*_, _/_, _-_}
 use mathlib.Core.List.{List, [], _∷_}
-use mathlib.Core.Bool.{Bool, true, false, cond, not, _&&_, _||_}
+use mathlib.Core.Bool.{Bool, false, cond, not, _&&_, _||_}
 use lib.ListN.{length, getD, take, drop}
 use lib.Dec.{ltb, eqb}
 use Rattle.text.specs.Bytes.{sameBytes, isLetter}

@@ -1,7 +1,7 @@
 -- The command, 1 and 2: verbs and options by name and by number; and the kinds of record with the length of their bodies.
 use Prim.Native.Nat.{ℕ, suc}
 use mathlib.Core.List.{List, [], _∷_}
-use mathlib.Core.Bool.{Bool, true, false, cond, not, _&&_}
+use mathlib.Core.Bool.{Bool, cond, not, _&&_}
 use mathlib.Core.Option.{Option, none, some}
 use lib.ListN.{getD}
 use Rattle.text.specs.Bytes.{bytes, sameBytes}

@@ -4,10 +4,6 @@ use Prim.Native.Nat.{_≤_, _-_}
 use lib.ListN.{length}
 use Rattle.canoncases.proofs.cases.Statement.{statement}
 use Rattle.canoncases.proofs.cases.Tie as tie
-use Rattle.canoncases.proofs.cases.Reads as reads
-use Rattle.canoncases.proofs.cases.Lts as lts
-use Rattle.canoncases.proofs.line_end.Reads as line-end-reads
-use Rattle.canoncases.proofs.show.Reads as show-reads
 
 abbrev Inv-loop : tie.InvT-loop
 Inv-loop input at₀ at = at ≤ length input

@@ -4,9 +4,6 @@ use lib.Seq.{length-take-le}
 use borrow.Author.Needs.{needs}
 use Rattle.canoncases.proofs.held.Statement.{statement}
 use Rattle.canoncases.proofs.held.Tie as tie
-use Rattle.canoncases.proofs.held.Reads as reads
-use Rattle.canoncases.proofs.held.Lts as lts
-use Rattle.io.proofs.write_all.Reads as write-all-reads
 
 slice-aggregate-write-all : tie.Need-slice-aggregate-write-all
 slice-aggregate-write-all c = let a = c .before .before .before .args in sym (length-take-le (a .n) (a .room .now) (c .before .if1 .taken))

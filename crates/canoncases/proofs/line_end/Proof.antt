@@ -5,8 +5,6 @@ use lib.ListN.{length}
 use native.Mathlib.Omega.{arith}
 use Rattle.canoncases.proofs.line_end.Statement.{statement}
 use Rattle.canoncases.proofs.line_end.Tie as tie
-use Rattle.canoncases.proofs.line_end.Reads as reads
-use Rattle.canoncases.proofs.line_end.Lts as lts
 
 abbrev Inv-loop : tie.InvT-loop
 Inv-loop input at i₀ i = (at ≤ i) × (i ≤ length input)

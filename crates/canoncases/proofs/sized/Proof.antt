@@ -4,9 +4,6 @@ use lib.Seq.{length-take-le}
 use borrow.Author.Needs.{needs}
 use Rattle.canoncases.proofs.sized.Statement.{statement}
 use Rattle.canoncases.proofs.sized.Tie as tie
-use Rattle.canoncases.proofs.sized.Reads as reads
-use Rattle.canoncases.proofs.sized.Lts as lts
-use Rattle.canoncases.proofs.into.Reads as into-reads
 
 slice-relend-prefix-into : tie.Need-slice-relend-prefix-into
 slice-relend-prefix-into c = search needs

@@ -1,10 +1,9 @@
 -- `canonical::canonical` meets its contract.
-use Prim.Native.Nat.{ℕ, _-_, _≤_}
 use borrow.Author.Needs.{needs}
-use mathlib.Core.Path.{_≡_, sym, ap, _∙_}
+use mathlib.Core.Path.{sym, ap, _∙_}
 use mathlib.Core.Bool.{true}
 use native.Mathlib.Omega.{arith}
-use lib.ListN.{length, replicate}
+use lib.ListN.{replicate}
 use lib.Seq.{sets, length-take-le}
 use Rattle.text.proofs.Writes.{held-is}
 use Rattle.canonical.specs.Written.{writtenIn}
@@ -12,10 +11,6 @@ use Rattle.reading.specs.Reading.{readingOf}
 use Rattle.canonical.proofs.LineLaws.{total-refused, total-fine, total-length, total-none, total-fits}
 use Rattle.canonical.proofs.canonical.Statement.{statement}
 use Rattle.canonical.proofs.canonical.Tie as tie
-use Rattle.canonical.proofs.canonical.Reads as reads
-use Rattle.canonical.proofs.canonical.Lts as lts
-use Rattle.canonical.proofs.put_writing.Reads as put-writing-reads
-use Rattle.text.proofs.copy.Reads as copy-reads
 
 slice-aggregate-put-writing : tie.Need-slice-aggregate-put-writing
 slice-aggregate-put-writing c = search needs

@@ -1,5 +1,4 @@
 -- `canonical::is_graved` meets its contract.
-use Prim.Native.Nat.{_-_}
 use borrow.Author.Needs.{needs}
 use borrow.Author.Tests.{ne-eqb}
 use mathlib.Core.Path.{sym, ap}
@@ -8,9 +7,6 @@ use Rattle.text.specs.Bytes.{bytes, oneOf}
 use Rattle.canonical.specs.Written.{graves}
 use Rattle.canonical.proofs.is_graved.Statement.{statement}
 use Rattle.canonical.proofs.is_graved.Tie as tie
-use Rattle.canonical.proofs.is_graved.Reads as reads
-use Rattle.canonical.proofs.is_graved.Lts as lts
-use Rattle.terms.proofs.is_two.Reads as is-two-reads
 
 is-two-requires : tie.Need-is-two-requires
 is-two-requires c κs = search needs

@@ -1,5 +1,4 @@
 -- `canonical::is_mark` meets its contract.
-use Prim.Native.Nat.{_-_}
 use borrow.Author.Tests.{ne-eqb}
 use mathlib.Core.Path.{sym, ap}
 use Rattle.text.specs.Bytes.{bytes, oneOf}
@@ -7,8 +6,6 @@ use Rattle.canonical.specs.Written.{isParting}
 use Rattle.terms.specs.declared.Mode.the-variants.{Out}
 use Rattle.canonical.proofs.is_mark.Statement.{statement}
 use Rattle.canonical.proofs.is_mark.Tie as tie
-use Rattle.canonical.proofs.is_mark.Reads as reads
-use Rattle.canonical.proofs.is_mark.Lts as lts
 
 returns : tie.Need-returns
 unfolding oneOf bytes

@@ -1,11 +1,7 @@
 -- `canonical::is_parting` meets its contract.
-use Prim.Native.Nat.{_-_}
 use borrow.Author.Needs.{needs}
 use Rattle.canonical.proofs.is_parting.Statement.{statement}
 use Rattle.canonical.proofs.is_parting.Tie as tie
-use Rattle.canonical.proofs.is_parting.Reads as reads
-use Rattle.canonical.proofs.is_parting.Lts as lts
-use Rattle.canonical.proofs.is_mark.Reads as is-mark-reads
 
 enum-told : tie.Need-enum-told
 enum-told c = search needs

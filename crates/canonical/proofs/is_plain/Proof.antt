@@ -1,5 +1,5 @@
 -- `canonical::is_plain` meets its contract.
-use Prim.Native.Nat.{ℕ, _-_}
+use Prim.Native.Nat.{ℕ}
 use borrow.Author.Needs.{needs}
 use lib.Dec.{eqb}
 use mathlib.Core.Path.{sym, ap, _∙_}
@@ -7,9 +7,6 @@ use lib.ListN.{length}
 use Rattle.canonical.proofs.WriteLaws.{plain-none, plain-run}
 use Rattle.canonical.proofs.is_plain.Statement.{statement}
 use Rattle.canonical.proofs.is_plain.Tie as tie
-use Rattle.canonical.proofs.is_plain.Reads as reads
-use Rattle.canonical.proofs.is_plain.Lts as lts
-use Rattle.text.proofs.words_len.Reads as words-len-reads
 
 returns : tie.Need-returns
 returns c = sym (plain-none (c .before .before .args .s .now) (c .if1 .taken))

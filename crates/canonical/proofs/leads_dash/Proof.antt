@@ -1,5 +1,5 @@
 -- `canonical::leads_dash` meets its contract.
-use Prim.Native.Nat.{_-_, _≤_}
+use Prim.Native.Nat.{_≤_}
 use borrow.Author.Needs.{needs}
 use mathlib.Core.Path.{sym}
 use native.Mathlib.Omega.{arith}
@@ -10,9 +10,6 @@ use Rattle.canonical.specs.Written.{leadsDash}
 use Rattle.canonical.proofs.WriteLaws.{short-dash}
 use Rattle.canonical.proofs.leads_dash.Statement.{statement}
 use Rattle.canonical.proofs.leads_dash.Tie as tie
-use Rattle.canonical.proofs.leads_dash.Reads as reads
-use Rattle.canonical.proofs.leads_dash.Lts as lts
-use Rattle.text.proofs.same.Reads as same-reads
 
 returns : tie.Need-returns
 returns c = sym (short-dash (c .before .before .args .s .now) (c .if1 .taken))

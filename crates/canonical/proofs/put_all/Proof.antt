@@ -10,9 +10,6 @@ use Rattle.canonical.proofs.WriteLaws.{then-left, left-length, graved-s
 use Rattle.canonical.specs.Written.{graved, gravedAll}
 use Rattle.canonical.proofs.put_all.Statement.{statement}
 use Rattle.canonical.proofs.put_all.Tie as tie
-use Rattle.canonical.proofs.put_all.Reads as reads
-use Rattle.canonical.proofs.put_all.Lts as lts
-use Rattle.canonical.proofs.put_graved.Reads as put-graved-reads
 
 abbrev Inv-loop : tie.InvT-loop
 Inv-loop out₀ at s quoted w₀ i₀ out w i =

@@ -1,14 +1,8 @@
 -- `canonical::put_argument` meets its contract.
-use Prim.Native.Nat.{_-_}
 use borrow.Author.Needs.{needs}
 use native.Mathlib.Omega.{arith}
 use Rattle.canonical.proofs.put_argument.Statement.{statement}
 use Rattle.canonical.proofs.put_argument.Tie as tie
-use Rattle.canonical.proofs.put_argument.Reads as reads
-use Rattle.canonical.proofs.put_argument.Lts as lts
-use Rattle.canonical.proofs.put_place.Reads as put-place-reads
-use Rattle.canonical.proofs.put_raw.Reads as put-raw-reads
-use Rattle.canonical.proofs.put_texts.Reads as put-texts-reads
 
 enum-told : tie.Need-enum-told
 enum-told c = search needs

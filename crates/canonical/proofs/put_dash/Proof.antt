@@ -1,13 +1,9 @@
 -- `canonical::put_dash` meets its contract.
-use Prim.Native.Nat.{_-_}
 use borrow.Author.Needs.{needs}
 use mathlib.Core.Path.{refl}
 use native.Mathlib.Omega.{arith}
 use Rattle.canonical.proofs.put_dash.Statement.{statement}
 use Rattle.canonical.proofs.put_dash.Tie as tie
-use Rattle.canonical.proofs.put_dash.Reads as reads
-use Rattle.canonical.proofs.put_dash.Lts as lts
-use Rattle.text.proofs.put.Reads as put-reads
 
 put-requires : tie.Need-put-requires
 put-requires c κs = search needs

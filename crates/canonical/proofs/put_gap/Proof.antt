@@ -1,13 +1,9 @@
 -- `canonical::put_gap` meets its contract.
-use Prim.Native.Nat.{_-_}
 use borrow.Author.Needs.{needs}
 use mathlib.Core.Path.{refl}
 use native.Mathlib.Omega.{arith}
 use Rattle.canonical.proofs.put_gap.Statement.{statement}
 use Rattle.canonical.proofs.put_gap.Tie as tie
-use Rattle.canonical.proofs.put_gap.Reads as reads
-use Rattle.canonical.proofs.put_gap.Lts as lts
-use Rattle.text.proofs.put.Reads as put-reads
 
 returns : tie.Need-returns
 returns c = rw (c .if1 .taken) (omega arith, refl)

@@ -1,15 +1,10 @@
 -- `canonical::put_graved` meets its contract.
-use Prim.Native.Nat.{_-_}
 use borrow.Author.Needs.{needs}
 use mathlib.Core.Path.{sym, _∙_}
 use native.Mathlib.Omega.{arith}
 use Rattle.canonical.proofs.WriteLaws.{two-sets, graved-two, graved-one}
 use Rattle.canonical.proofs.put_graved.Statement.{statement}
 use Rattle.canonical.proofs.put_graved.Tie as tie
-use Rattle.canonical.proofs.put_graved.Reads as reads
-use Rattle.canonical.proofs.put_graved.Lts as lts
-use Rattle.canonical.proofs.is_graved.Reads as is-graved-reads
-use Rattle.text.proofs.put.Reads as put-reads
 
 is-graved-requires : tie.Need-is-graved-requires
 is-graved-requires c κs = search needs

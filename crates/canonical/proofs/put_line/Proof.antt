@@ -17,12 +17,6 @@ use Rattle.text.specs.declared.Verdict.the-variants.{Fine}
 use Rattle.canonical.proofs.LineLaws.{gap-short, step-written, step-total, end-total, end-written}
 use Rattle.canonical.proofs.put_line.Statement.{statement}
 use Rattle.canonical.proofs.put_line.Tie as tie
-use Rattle.canonical.proofs.put_line.Reads as reads
-use Rattle.canonical.proofs.put_line.Lts as lts
-use Rattle.canonical.proofs.put_gap.Reads as put-gap-reads
-use Rattle.canonical.proofs.put_term.Reads as put-term-reads
-use Rattle.reading.proofs.Cursor.begin.Reads as begin-reads
-use Rattle.reading.proofs.Cursor.next.Reads as next-reads
 use Rattle.text.proofs.Writes.{then-sets}
 use Rattle.text.proofs.Slices.{part-between, length-part}
 

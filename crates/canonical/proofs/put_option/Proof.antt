@@ -1,15 +1,10 @@
 -- `canonical::put_option` meets its contract.
-use Prim.Native.Nat.{_-_}
 use borrow.Author.Needs.{needs}
 use native.Mathlib.Omega.{arith}
 use Rattle.canonical.proofs.WriteLaws.{after-set}
 use Rattle.words.specs.Words.{optionName}
 use Rattle.canonical.proofs.put_option.Statement.{statement}
 use Rattle.canonical.proofs.put_option.Tie as tie
-use Rattle.canonical.proofs.put_option.Reads as reads
-use Rattle.canonical.proofs.put_option.Lts as lts
-use Rattle.text.proofs.put.Reads as put-reads
-use Rattle.words.proofs.put_option_name.Reads as put-option-name-reads
 use Rattle.words.proofs.WordLaws.{option-short}
 
 put-requires : tie.Need-put-requires

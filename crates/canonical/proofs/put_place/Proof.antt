@@ -1,5 +1,5 @@
 -- `canonical::put_place` meets its contract.
-use Prim.Native.Nat.{ℕ, _+_, _-_, _≤_}
+use Prim.Native.Nat.{ℕ, _+_, _≤_}
 use borrow.Author.Needs.{needs}
 use mathlib.Core.Path.{_≡_, sym, ap, _∙_}
 use mathlib.Core.List.{List}
@@ -13,12 +13,6 @@ use Rattle.terms.specs.Signs.{meant}
 use Rattle.terms.proofs.TermLaws.{meant-length}
 use Rattle.canonical.proofs.put_place.Statement.{statement}
 use Rattle.canonical.proofs.put_place.Tie as tie
-use Rattle.canonical.proofs.put_place.Reads as reads
-use Rattle.canonical.proofs.put_place.Lts as lts
-use Rattle.canonical.proofs.leads_dash.Reads as leads-dash-reads
-use Rattle.canonical.proofs.put_all.Reads as put-all-reads
-use Rattle.canonical.proofs.put_dash.Reads as put-dash-reads
-use Rattle.terms.proofs.put_meant.Reads as put-meant-reads
 
 dash-short : (x : Bool) → length (dashGrave x) ≤ 1
 dash-short true = omega arith

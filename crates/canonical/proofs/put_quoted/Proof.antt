@@ -1,5 +1,4 @@
 -- `canonical::put_quoted` meets its contract.
-use Prim.Native.Nat.{_-_}
 use borrow.Author.Needs.{needs}
 use mathlib.Core.Path.{sym, ap, _∙_}
 use mathlib.Core.Bool.{true}
@@ -9,10 +8,6 @@ use Rattle.canonical.proofs.WriteLaws.{three-sets, quotes-bytes, quotes
 use Rattle.canonical.specs.Written.{gravedAll}
 use Rattle.canonical.proofs.put_quoted.Statement.{statement}
 use Rattle.canonical.proofs.put_quoted.Tie as tie
-use Rattle.canonical.proofs.put_quoted.Reads as reads
-use Rattle.canonical.proofs.put_quoted.Lts as lts
-use Rattle.canonical.proofs.put_all.Reads as put-all-reads
-use Rattle.text.proofs.put.Reads as put-reads
 
 put-requires : tie.Need-put-requires
 put-requires c κs = search needs

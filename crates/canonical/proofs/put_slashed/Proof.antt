@@ -10,10 +10,6 @@ use Rattle.canonical.proofs.WriteLaws.{then-left, left-length, slashed-
 use Rattle.canonical.specs.Written.{slash, slashed}
 use Rattle.canonical.proofs.put_slashed.Statement.{statement}
 use Rattle.canonical.proofs.put_slashed.Tie as tie
-use Rattle.canonical.proofs.put_slashed.Reads as reads
-use Rattle.canonical.proofs.put_slashed.Lts as lts
-use Rattle.canonical.proofs.slash.Reads as slash-reads
-use Rattle.text.proofs.put.Reads as put-reads
 
 abbrev Inv-loop : tie.InvT-loop
 Inv-loop out₀ at s w₀ i₀ out w i =

@@ -1,17 +1,8 @@
 -- `canonical::put_term` meets its contract.
-use Prim.Native.Nat.{_-_}
 use borrow.Author.Needs.{needs}
 use native.Mathlib.Omega.{arith}
 use Rattle.canonical.proofs.put_term.Statement.{statement}
 use Rattle.canonical.proofs.put_term.Tie as tie
-use Rattle.canonical.proofs.put_term.Reads as reads
-use Rattle.canonical.proofs.put_term.Lts as lts
-use Rattle.canonical.proofs.put_argument.Reads as put-argument-reads
-use Rattle.canonical.proofs.put_option.Reads as put-option-reads
-use Rattle.canonical.proofs.put_slashed.Reads as put-slashed-reads
-use Rattle.canonical.proofs.put_texts.Reads as put-texts-reads
-use Rattle.canonical.proofs.put_verb.Reads as put-verb-reads
-use Rattle.words.proofs.kind_of.Reads as kind-of-reads
 
 enum-known-item : tie.Need-enum-known-item
 enum-known-item c = search needs

@@ -1,5 +1,5 @@
 -- `canonical::put_text` meets its contract.
-use Prim.Native.Nat.{ℕ, _+_, _-_}
+use Prim.Native.Nat.{ℕ, _+_}
 use borrow.Author.Needs.{needs}
 use mathlib.Core.Path.{_≡_, refl, sym, ap, _∙_}
 use mathlib.Core.Bool.{true, not}
@@ -20,12 +20,6 @@ use Rattle.terms.specs.Signs.{signs, raws, meant}
 use Rattle.terms.proofs.TermLaws.{raws-signs, meant-length}
 use Rattle.canonical.proofs.put_text.Statement.{statement}
 use Rattle.canonical.proofs.put_text.Tie as tie
-use Rattle.canonical.proofs.put_text.Reads as reads
-use Rattle.canonical.proofs.put_text.Lts as lts
-use Rattle.canonical.proofs.is_plain.Reads as is-plain-reads
-use Rattle.canonical.proofs.put_raw.Reads as put-raw-reads
-use Rattle.canonical.proofs.put_value.Reads as put-value-reads
-use Rattle.terms.proofs.put_meant.Reads as put-meant-reads
 
 -- letters, digits and underscores stand for themselves
 plain-words : (s : List ℕ) → isPlain s ≡ true → allOf isWord s ≡ true

@@ -11,11 +11,6 @@ use Rattle.canonical.specs.Written.{textIn, textsIn}
 use lib.ListN.{length-drop}
 use Rattle.canonical.proofs.put_texts.Statement.{statement}
 use Rattle.canonical.proofs.put_texts.Tie as tie
-use Rattle.canonical.proofs.put_texts.Reads as reads
-use Rattle.canonical.proofs.put_texts.Lts as lts
-use Rattle.canonical.proofs.put_text.Reads as put-text-reads
-use Rattle.canonical.proofs.text_end.Reads as text-end-reads
-use Rattle.text.proofs.put.Reads as put-reads
 
 abbrev Inv-loop : tie.InvT-loop
 Inv-loop out₀ at s i₀ w₀ out i w =

@@ -1,16 +1,10 @@
 -- `canonical::put_value` meets its contract.
-use Prim.Native.Nat.{_-_}
 use borrow.Author.Needs.{needs}
 use mathlib.Core.Path.{sym, _∙_}
 use native.Mathlib.Omega.{arith}
 use Rattle.canonical.proofs.WriteLaws.{text-plain, text-quoted}
 use Rattle.canonical.proofs.put_value.Statement.{statement}
 use Rattle.canonical.proofs.put_value.Tie as tie
-use Rattle.canonical.proofs.put_value.Reads as reads
-use Rattle.canonical.proofs.put_value.Lts as lts
-use Rattle.canonical.proofs.is_plain.Reads as is-plain-reads
-use Rattle.canonical.proofs.put_quoted.Reads as put-quoted-reads
-use Rattle.canonical.proofs.put_raw.Reads as put-raw-reads
 
 is-plain-requires : tie.Need-is-plain-requires
 is-plain-requires c κs = search needs

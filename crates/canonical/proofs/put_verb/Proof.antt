@@ -1,12 +1,8 @@
 -- `canonical::put_verb` meets its contract.
-use Prim.Native.Nat.{_-_}
 use borrow.Author.Needs.{needs}
 use native.Mathlib.Omega.{arith}
 use Rattle.canonical.proofs.put_verb.Statement.{statement}
 use Rattle.canonical.proofs.put_verb.Tie as tie
-use Rattle.canonical.proofs.put_verb.Reads as reads
-use Rattle.canonical.proofs.put_verb.Lts as lts
-use Rattle.words.proofs.put_verb_name.Reads as put-verb-name-reads
 use Rattle.words.proofs.WordLaws.{verb-short}
 
 put-verb-name-requires : tie.Need-put-verb-name-requires

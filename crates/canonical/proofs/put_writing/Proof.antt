@@ -9,10 +9,6 @@ use Rattle.reading.specs.Shown.{verdictIn}
 use Rattle.reading.proofs.Folds.{fine-left, flawed-left, fine-short, refused-fine}
 use Rattle.canonical.proofs.put_writing.Statement.{statement}
 use Rattle.canonical.proofs.put_writing.Tie as tie
-use Rattle.canonical.proofs.put_writing.Reads as reads
-use Rattle.canonical.proofs.put_writing.Lts as lts
-use Rattle.canonical.proofs.put_line.Reads as put-line-reads
-use Rattle.terms.proofs.lexical.Reads as lexical-reads
 
 lexical-requires : tie.Need-lexical-requires
 lexical-requires c κs = search needs

@@ -1,12 +1,9 @@
 -- `canonical::slash` meets its contract.
-use Prim.Native.Nat.{_-_}
 use borrow.Author.Tests.{ne-eqb}
 use mathlib.Core.Path.{sym, ap}
 use Rattle.canonical.specs.Written.{slash}
 use Rattle.canonical.proofs.slash.Statement.{statement}
 use Rattle.canonical.proofs.slash.Tie as tie
-use Rattle.canonical.proofs.slash.Reads as reads
-use Rattle.canonical.proofs.slash.Lts as lts
 
 returns : tie.Need-returns
 unfolding slash

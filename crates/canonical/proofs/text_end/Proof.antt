@@ -9,10 +9,6 @@ use Rattle.canonical.specs.Written.{textLen}
 use Rattle.terms.specs.declared.Mode.the-variants.{Out}
 use Rattle.canonical.proofs.text_end.Statement.{statement}
 use Rattle.canonical.proofs.text_end.Tie as tie
-use Rattle.canonical.proofs.text_end.Reads as reads
-use Rattle.canonical.proofs.text_end.Lts as lts
-use Rattle.canonical.proofs.is_parting.Reads as is-parting-reads
-use Rattle.terms.proofs.step.Reads as step-reads
 
 abbrev Inv-loop : tie.InvT-loop
 Inv-loop s at i₀ m₀ i m = i + textLen m (drop i s) ≡ at + textLen Out (drop at s)

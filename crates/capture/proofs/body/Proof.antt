@@ -1,18 +1,11 @@
 -- `capture::body` meets its contract.
-use mathlib.Core.Path.{_≡_, refl, sym, ap, _∙_}
-use Prim.Native.Nat.{ℕ, _+_, _-_, _≤_, _<_}
+use mathlib.Core.Path.{ap, _∙_}
 use native.Mathlib.Omega.{arith}
-use mathlib.Core.List.{List, []}
-use lib.ListN.{length, getD, drop}
-use lib.Seq.{sets}
 use Rattle.words.specs.Tables.{known}
 use Rattle.capture.proofs.TextLaws.{body-past, body-form}
 use borrow.Author.Needs.{needs}
 use Rattle.capture.proofs.body.Statement.{statement}
 use Rattle.capture.proofs.body.Tie as tie
-use Rattle.capture.proofs.body.Reads as reads
-use Rattle.capture.proofs.body.Lts as lts
-use Rattle.words.proofs.body_len.Reads as body-len-reads
 
 returns : tie.Need-returns
 returns c = body-past (c .before .args .kind) (c .if1 .taken)

@@ -1,20 +1,8 @@
 -- `capture::end_answer` meets its contract.
-use mathlib.Core.Path.{_≡_, refl, sym, ap, _∙_}
-use Prim.Native.Nat.{ℕ, suc, _+_, _-_, _≤_, _<_}
-use native.Mathlib.Omega.{arith}
-use native.Mathlib.Nat.{add-zero}
-use mathlib.Core.List.{List, []}
-use lib.ListN.{length, getD, take, drop}
-use lib.Seq.{sets}
 use borrow.Author.Needs.{needs}
 use Rattle.capture.proofs.ListLaws.{end-nothing, end-cut, end-refused}
 use Rattle.capture.proofs.end_answer.Statement.{statement}
 use Rattle.capture.proofs.end_answer.Tie as tie
-use Rattle.capture.proofs.end_answer.Reads as reads
-use Rattle.capture.proofs.end_answer.Lts as lts
-use Rattle.capture.proofs.stands_by.Reads as stands-by-reads
-use Rattle.joiner.proofs.Joiner.end.Reads as end-reads
-use Rattle.reading.proofs.put_cut.Reads as put-cut-reads
 
 end-requires : tie.Need-end-requires
 end-requires c κs = search needs

@@ -1,18 +1,8 @@
 -- `capture::field` meets its contract.
-use mathlib.Core.Path.{_≡_, refl, sym, ap, _∙_}
-use Prim.Native.Nat.{ℕ, suc, _+_, _-_, _≤_, _<_}
-use native.Mathlib.Omega.{arith}
-use native.Mathlib.Nat.{add-zero}
-use mathlib.Core.List.{List, []}
-use lib.ListN.{length, getD, take, drop}
-use lib.Seq.{sets}
 use borrow.Author.Needs.{needs}
 use Rattle.capture.proofs.TextLaws.{field-one, field-two}
 use Rattle.capture.proofs.field.Statement.{statement}
 use Rattle.capture.proofs.field.Tie as tie
-use Rattle.capture.proofs.field.Reads as reads
-use Rattle.capture.proofs.field.Lts as lts
-use Rattle.capture.proofs.pair.Reads as pair-reads
 
 shared-slice-read-pair : tie.Need-shared-slice-read-pair
 shared-slice-read-pair c = search needs

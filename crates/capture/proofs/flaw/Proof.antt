@@ -1,20 +1,12 @@
 -- `capture::flaw` meets its contract.
 use mathlib.Core.Path.{_≡_, refl, sym, ap, _∙_}
-use Prim.Native.Nat.{ℕ, suc, _+_, _-_, _≤_, _<_}
+use Prim.Native.Nat.{_-_, _≤_}
 use native.Mathlib.Omega.{arith}
-use native.Mathlib.Nat.{add-zero}
-use mathlib.Core.List.{List, []}
-use lib.ListN.{length, getD, take, drop}
-use lib.Seq.{sets}
-use borrow.Author.Needs.{needs}
-use Rattle.capture.specs.Words.{formOf, forms, total, fieldOf, fieldsText, textOf, textAnswer, textRoom}
-use Rattle.capture.specs.Steps.{wordBy, lenBy, firstText, fieldText, rowFields, textAt, flawIn, textIn, answerFrom, answerPast}
+use lib.ListN.{length}
+use Rattle.capture.specs.Steps.{textAt, flawIn}
 use Rattle.capture.proofs.TextLaws.{text-bad, text-within, flaw-on, text-end}
 use Rattle.capture.proofs.flaw.Statement.{statement}
 use Rattle.capture.proofs.flaw.Tie as tie
-use Rattle.capture.proofs.flaw.Reads as reads
-use Rattle.capture.proofs.flaw.Lts as lts
-use Rattle.capture.proofs.record_len.Reads as record-len-reads
 
 abbrev Inv-loop : tie.InvT-loop
 Inv-loop records p₀ p = (p ≤ length records) × (flawIn (textAt p records) ≡ flawIn (textAt p₀ records))

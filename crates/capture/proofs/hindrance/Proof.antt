@@ -1,21 +1,11 @@
 -- `capture::hindrance` meets its contract.
-use mathlib.Core.Path.{_≡_, refl, sym, ap, _∙_}
-use Prim.Native.Nat.{ℕ, suc, _+_, _-_, _≤_, _<_}
+use mathlib.Core.Path.{sym, ap, _∙_}
 use native.Mathlib.Omega.{arith}
-use native.Mathlib.Nat.{add-zero}
-use mathlib.Core.List.{List, []}
-use lib.ListN.{length, getD, take, drop}
-use lib.Seq.{sets}
 use borrow.Author.Needs.{needs}
-use Rattle.capture.specs.Words.{textOf, textAnswer, textRoom}
-use Rattle.capture.specs.Steps.{textAt, flawIn, textIn, verdictBy}
+use Rattle.capture.specs.Steps.{verdictBy}
 use Rattle.capture.proofs.TextLaws.{short-fits}
 use Rattle.capture.proofs.hindrance.Statement.{statement}
 use Rattle.capture.proofs.hindrance.Tie as tie
-use Rattle.capture.proofs.hindrance.Reads as reads
-use Rattle.capture.proofs.hindrance.Lts as lts
-use Rattle.capture.proofs.flaw.Reads as flaw-reads
-use Rattle.capture.proofs.measured.Reads as measured-reads
 
 flaw-requires : tie.Need-flaw-requires
 flaw-requires c κs = omega arith

@@ -1,22 +1,13 @@
 -- `capture::measured` meets its contract.
-use mathlib.Core.Path.{_≡_, refl, sym, ap, _∙_}
-use Prim.Native.Nat.{ℕ, suc, _+_, _-_, _≤_, _<_}
+use mathlib.Core.Path.{_≡_, sym, ap, _∙_}
+use Prim.Native.Nat.{_+_, _-_, _≤_}
 use native.Mathlib.Omega.{arith}
-use native.Mathlib.Nat.{add-zero}
-use mathlib.Core.List.{List, []}
-use lib.ListN.{length, getD, take, drop}
-use lib.Seq.{sets}
-use borrow.Author.Needs.{needs}
-use Rattle.capture.specs.Words.{formOf, forms, total, fieldOf, fieldsText, textOf, textAnswer, textRoom}
-use Rattle.capture.specs.Steps.{wordBy, lenBy, firstText, fieldText, rowFields, textAt, flawIn, textIn, answerFrom, answerPast}
+use lib.ListN.{length}
+use Rattle.capture.specs.Words.{textOf, textAnswer}
+use Rattle.capture.specs.Steps.{textAt, answerFrom}
 use Rattle.capture.proofs.TextLaws.{answer-start, text-start, text-bad, text-within, first-from, answer-on, answer-past, text-end, answer-end}
 use Rattle.capture.proofs.measured.Statement.{statement}
 use Rattle.capture.proofs.measured.Tie as tie
-use Rattle.capture.proofs.measured.Reads as reads
-use Rattle.capture.proofs.measured.Lts as lts
-use Rattle.capture.proofs.no_room.Reads as no-room-reads
-use Rattle.capture.proofs.record_len.Reads as record-len-reads
-use Rattle.capture.proofs.text_len.Reads as text-len-reads
 
 abbrev Inv-loop : tie.InvT-loop
 Inv-loop records room p₀ at₀ p at = (p ≤ length records) × (at ≤ room) × (textAnswer room (textOf records) ≡ answerFrom at room (textAt p records))

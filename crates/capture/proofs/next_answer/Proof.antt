@@ -1,11 +1,6 @@
 -- `capture::next_answer` meets its contract.
-use mathlib.Core.Path.{_≡_, refl, sym, ap, _∙_}
-use Prim.Native.Nat.{ℕ, suc, _+_, _-_, _≤_, _<_}
+use mathlib.Core.Path.{sym, ap}
 use native.Mathlib.Omega.{arith}
-use native.Mathlib.Nat.{add-zero}
-use mathlib.Core.List.{List, []}
-use lib.ListN.{length, getD, take, drop}
-use lib.Seq.{sets}
 use borrow.Author.Needs.{needs}
 use Rattle.joiner.specs.declared.Joined.{Joined}
 use Rattle.joiner.specs.Join.{joinOf}
@@ -13,10 +8,6 @@ use Rattle.capture.specs.Lister.{Told}
 use Rattle.capture.proofs.ListLaws.{list-none, list-is, join-sane, listed-is}
 use Rattle.capture.proofs.next_answer.Statement.{statement}
 use Rattle.capture.proofs.next_answer.Tie as tie
-use Rattle.capture.proofs.next_answer.Reads as reads
-use Rattle.capture.proofs.next_answer.Lts as lts
-use Rattle.capture.proofs.put_outcome.Reads as put-outcome-reads
-use Rattle.joiner.proofs.Joiner.join.Reads as join-reads
 
 returns : tie.Need-returns
 returns c =

@@ -1,21 +1,11 @@
 -- `capture::put_field` meets its contract.
-use mathlib.Core.Path.{_≡_, refl, sym, ap, _∙_}
-use Prim.Native.Nat.{ℕ, suc, _+_, _-_, _≤_, _<_}
 use native.Mathlib.Omega.{arith}
-use native.Mathlib.Nat.{add-zero}
-use mathlib.Core.List.{List, []}
-use lib.ListN.{length, getD, take, drop}
-use lib.Seq.{sets}
 use borrow.Author.Needs.{needs}
 use Rattle.text.specs.Decimal.{digits}
 use Rattle.text.proofs.Decimals.{width-between, length-digits}
 use Rattle.capture.proofs.TextLaws.{field-put}
 use Rattle.capture.proofs.put_field.Statement.{statement}
 use Rattle.capture.proofs.put_field.Tie as tie
-use Rattle.capture.proofs.put_field.Reads as reads
-use Rattle.capture.proofs.put_field.Lts as lts
-use Rattle.text.proofs.put.Reads as put-reads
-use Rattle.text.proofs.put_decimal.Reads as put-decimal-reads
 
 put-requires : tie.Need-put-requires
 put-requires c κs = search needs

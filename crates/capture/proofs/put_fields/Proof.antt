@@ -1,21 +1,16 @@
 -- `capture::put_fields` meets its contract.
-use mathlib.Core.Path.{_≡_, refl, sym, ap, _∙_}
-use Prim.Native.Nat.{ℕ, suc, _+_, _-_, _≤_, _<_}
+use mathlib.Core.Path.{_≡_, refl, ap, _∙_}
+use Prim.Native.Nat.{ℕ, _+_, _-_, _≤_, _<_}
 use native.Mathlib.Omega.{arith}
 use native.Mathlib.Nat.{add-zero}
-use mathlib.Core.List.{List, []}
-use lib.ListN.{length, getD, take, drop}
+use lib.ListN.{length, drop}
 use lib.Seq.{sets}
 use borrow.Author.Needs.{needs}
-use Rattle.capture.specs.Words.{formOf, forms, total, fieldOf, fieldsText, textOf, textAnswer, textRoom}
-use Rattle.capture.specs.Steps.{wordBy, lenBy, firstText, fieldText, rowFields, textAt, flawIn, textIn, answerFrom, answerPast}
+use Rattle.capture.specs.Words.{total, fieldsText}
+use Rattle.capture.specs.Steps.{rowFields}
 use Rattle.capture.proofs.TextLaws.{fieldsLeft, row-end, row-past, done-count, done-sets, left-some, total-more, length-more, sets-more}
 use Rattle.capture.proofs.put_fields.Statement.{statement}
 use Rattle.capture.proofs.put_fields.Tie as tie
-use Rattle.capture.proofs.put_fields.Reads as reads
-use Rattle.capture.proofs.put_fields.Lts as lts
-use Rattle.capture.proofs.field.Reads as field-reads
-use Rattle.capture.proofs.put_field.Reads as put-field-reads
 
 abbrev Inv-loop : tie.InvT-loop
 Inv-loop out₀ at body widths j₀ p₀ n₀ out j p n =

@@ -1,20 +1,12 @@
 -- `capture::put_line` meets its contract.
-use mathlib.Core.Path.{_≡_, refl, sym, ap, _∙_}
-use Prim.Native.Nat.{ℕ, suc, _+_, _-_, _≤_, _<_}
+use mathlib.Core.Path.{sym, _∙_}
+use Prim.Native.Nat.{ℕ, _≤_}
 use native.Mathlib.Omega.{arith}
-use native.Mathlib.Nat.{add-zero}
-use mathlib.Core.List.{List, []}
-use lib.ListN.{length, getD, take, drop}
-use lib.Seq.{sets}
 use borrow.Author.Needs.{needs}
 use mathlib.Core.Path.{subst}
 use Rattle.capture.proofs.ListLaws.{line-place, line-wrote, line-listed}
 use Rattle.capture.proofs.put_line.Statement.{statement}
 use Rattle.capture.proofs.put_line.Tie as tie
-use Rattle.capture.proofs.put_line.Reads as reads
-use Rattle.capture.proofs.put_line.Lts as lts
-use Rattle.capture.proofs.put_refused.Reads as put-refused-reads
-use Rattle.reading.proofs.read.Reads as read-reads
 
 read-requires : tie.Need-read-requires
 read-requires c κs = search needs

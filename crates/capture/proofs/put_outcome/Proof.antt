@@ -1,20 +1,11 @@
 -- `capture::put_outcome` meets its contract.
-use mathlib.Core.Path.{_≡_, refl, sym, ap, _∙_}
-use Prim.Native.Nat.{ℕ, suc, _+_, _-_, _≤_, _<_}
+use mathlib.Core.Path.{sym}
 use native.Mathlib.Omega.{arith}
-use native.Mathlib.Nat.{add-zero}
-use mathlib.Core.List.{List, []}
-use lib.ListN.{length, getD, take, drop}
-use lib.Seq.{sets}
 use borrow.Author.Needs.{needs}
 use lib.Seq.{length-take-le}
 use Rattle.capture.proofs.ListLaws.{ready-line, ready-place, told-line, told-19, told-refused}
 use Rattle.capture.proofs.put_outcome.Statement.{statement}
 use Rattle.capture.proofs.put_outcome.Tie as tie
-use Rattle.capture.proofs.put_outcome.Reads as reads
-use Rattle.capture.proofs.put_outcome.Lts as lts
-use Rattle.capture.proofs.put_line.Reads as put-line-reads
-use Rattle.capture.proofs.put_refused.Reads as put-refused-reads
 
 enum-told : tie.Need-enum-told
 enum-told c = search needs

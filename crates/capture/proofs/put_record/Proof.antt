@@ -1,22 +1,10 @@
 -- `capture::put_record` meets its contract.
-use mathlib.Core.Path.{_≡_, refl, sym, ap, _∙_}
-use Prim.Native.Nat.{ℕ, suc, _+_, _-_, _≤_, _<_}
 use native.Mathlib.Omega.{arith}
-use native.Mathlib.Nat.{add-zero}
-use mathlib.Core.List.{List, []}
-use lib.ListN.{length, getD, take, drop}
-use lib.Seq.{sets}
+use lib.ListN.{length, getD}
 use borrow.Author.Needs.{needs}
-use Rattle.capture.specs.Words.{formOf, forms, total, fieldOf, fieldsText, textOf, textAnswer, textRoom}
-use Rattle.capture.specs.Steps.{wordBy, lenBy, firstText, fieldText, rowFields, textAt, flawIn, textIn, answerFrom, answerPast}
 use Rattle.capture.proofs.TextLaws.{first-some, first-length, whole-kind, body-within, first-put}
 use Rattle.capture.proofs.put_record.Statement.{statement}
 use Rattle.capture.proofs.put_record.Tie as tie
-use Rattle.capture.proofs.put_record.Reads as reads
-use Rattle.capture.proofs.put_record.Lts as lts
-use Rattle.capture.proofs.put_fields.Reads as put-fields-reads
-use Rattle.capture.proofs.put_word.Reads as put-word-reads
-use Rattle.text.proofs.put.Reads as put-reads
 
 shared-slice-read-kind : tie.Need-shared-slice-read-kind
 shared-slice-read-kind c = let s = c .before .before .before .args .rec .now in let t = c .before .before .before .pre .0 in first-some s t

@@ -1,18 +1,9 @@
 -- `capture::put_refused` meets its contract.
-use mathlib.Core.Path.{_≡_, refl, sym, ap, _∙_}
-use Prim.Native.Nat.{ℕ, suc, _+_, _-_, _≤_, _<_}
-use native.Mathlib.Omega.{arith}
-use native.Mathlib.Nat.{add-zero}
-use mathlib.Core.List.{List, []}
-use lib.ListN.{length, getD, take, drop}
-use lib.Seq.{sets}
+use mathlib.Core.Path.{refl, _∙_}
 use borrow.Author.Needs.{needs}
 use Rattle.capture.proofs.ListLaws.{refusal-fills}
 use Rattle.capture.proofs.put_refused.Statement.{statement}
 use Rattle.capture.proofs.put_refused.Tie as tie
-use Rattle.capture.proofs.put_refused.Reads as reads
-use Rattle.capture.proofs.put_refused.Lts as lts
-use Rattle.reading.proofs.put_refusal.Reads as put-refusal-reads
 
 cast-put-refusal : tie.Need-cast-put-refusal
 cast-put-refusal c = search needs

@@ -1,20 +1,10 @@
 -- `capture::record_len` meets its contract.
-use mathlib.Core.Path.{_≡_, refl, sym, ap, _∙_}
-use Prim.Native.Nat.{ℕ, suc, _+_, _-_, _≤_, _<_}
-use native.Mathlib.Omega.{arith}
-use native.Mathlib.Nat.{add-zero}
-use mathlib.Core.List.{List, []}
-use lib.ListN.{length, getD, take, drop}
-use lib.Seq.{sets}
+use mathlib.Core.Path.{sym, _∙_}
 use borrow.Author.Needs.{needs}
-use Rattle.capture.specs.Words.{formOf, forms, total, fieldOf, fieldsText, textOf, textAnswer, textRoom}
-use Rattle.capture.specs.Steps.{wordBy, lenBy, firstText, fieldText, rowFields, textAt, flawIn, textIn, answerFrom, answerPast}
+use Rattle.capture.specs.Words.{formOf}
 use Rattle.capture.proofs.TextLaws.{len-cut, len-unknown, len-is}
 use Rattle.capture.proofs.record_len.Statement.{statement}
 use Rattle.capture.proofs.record_len.Tie as tie
-use Rattle.capture.proofs.record_len.Reads as reads
-use Rattle.capture.proofs.record_len.Lts as lts
-use Rattle.capture.proofs.body.Reads as body-reads
 
 body-requires : tie.Need-body-requires
 body-requires c κs = search needs

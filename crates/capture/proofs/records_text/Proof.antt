@@ -1,22 +1,13 @@
 -- `capture::records_text` meets its contract.
-use mathlib.Core.Path.{_≡_, refl, sym, ap, _∙_}
-use Prim.Native.Nat.{ℕ, suc, _+_, _-_, _≤_, _<_}
-use native.Mathlib.Omega.{arith}
-use native.Mathlib.Nat.{add-zero}
-use mathlib.Core.List.{List, []}
-use lib.ListN.{length, getD, take, drop}
-use lib.Seq.{sets}
+use mathlib.Core.Path.{sym, ap, _∙_}
+use Prim.Native.Nat.{ℕ}
+use lib.ListN.{length}
 use borrow.Author.Needs.{needs}
 use Rattle.text.specs.declared.Answer.the-variants.{Wrote}
-use Rattle.capture.specs.Words.{textOf, textAnswer, textRoom}
-use Rattle.capture.specs.Steps.{textAt, flawIn, textIn, verdictBy}
+use Rattle.capture.specs.Words.{textOf, textAnswer}
 use Rattle.capture.proofs.TextLaws.{fine-fits, flawed-refused, room-filled, room-refused}
 use Rattle.capture.proofs.records_text.Statement.{statement}
 use Rattle.capture.proofs.records_text.Tie as tie
-use Rattle.capture.proofs.records_text.Reads as reads
-use Rattle.capture.proofs.records_text.Lts as lts
-use Rattle.capture.proofs.hindrance.Reads as hindrance-reads
-use Rattle.capture.proofs.write_text.Reads as write-text-reads
 
 hindrance-requires : tie.Need-hindrance-requires
 hindrance-requires c κs = tt

@@ -1,17 +1,9 @@
 -- `capture::stands_by` meets its contract.
-use mathlib.Core.Path.{_≡_, refl, sym, ap, _∙_}
-use Prim.Native.Nat.{ℕ, suc, _+_, _-_, _≤_, _<_}
-use native.Mathlib.Omega.{arith}
-use native.Mathlib.Nat.{add-zero}
-use mathlib.Core.List.{List, []}
-use lib.ListN.{length, getD, take, drop}
-use lib.Seq.{sets}
+use mathlib.Core.Path.{sym, ap}
 use borrow.Author.Needs.{needs}
 use Rattle.capture.specs.Listing.{standsOf}
 use Rattle.capture.proofs.stands_by.Statement.{statement}
 use Rattle.capture.proofs.stands_by.Tie as tie
-use Rattle.capture.proofs.stands_by.Reads as reads
-use Rattle.capture.proofs.stands_by.Lts as lts
 
 enum-known-a : tie.Need-enum-known-a
 enum-known-a c = search needs

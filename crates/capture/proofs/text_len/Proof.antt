@@ -1,18 +1,9 @@
 -- `capture::text_len` meets its contract.
-use mathlib.Core.Path.{_≡_, refl, sym, ap, _∙_}
-use Prim.Native.Nat.{ℕ, suc, _+_, _-_, _≤_, _<_}
 use native.Mathlib.Omega.{arith}
-use native.Mathlib.Nat.{add-zero}
-use mathlib.Core.List.{List, []}
-use lib.ListN.{length, getD, take, drop}
-use lib.Seq.{sets}
 use borrow.Author.Needs.{needs}
 use Rattle.capture.proofs.TextLaws.{first-short}
 use Rattle.capture.proofs.text_len.Statement.{statement}
 use Rattle.capture.proofs.text_len.Tie as tie
-use Rattle.capture.proofs.text_len.Reads as reads
-use Rattle.capture.proofs.text_len.Lts as lts
-use Rattle.capture.proofs.put_record.Reads as put-record-reads
 
 slice-aggregate-put-record : tie.Need-slice-aggregate-put-record
 slice-aggregate-put-record c = search needs

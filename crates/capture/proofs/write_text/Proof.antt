@@ -1,23 +1,16 @@
 -- `capture::write_text` meets its contract.
 use mathlib.Core.Path.{_≡_, refl, sym, ap, _∙_}
-use Prim.Native.Nat.{ℕ, suc, _+_, _-_, _≤_, _<_}
+use Prim.Native.Nat.{_+_, _-_, _≤_}
 use native.Mathlib.Omega.{arith}
-use native.Mathlib.Nat.{add-zero}
-use mathlib.Core.List.{List, []}
-use lib.ListN.{length, getD, take, drop}
+use lib.ListN.{length}
 use lib.Seq.{sets}
-use borrow.Author.Needs.{needs}
-use Rattle.capture.specs.Words.{formOf, forms, total, fieldOf, fieldsText, textOf, textAnswer, textRoom}
-use Rattle.capture.specs.Steps.{wordBy, lenBy, firstText, fieldText, rowFields, textAt, flawIn, textIn, answerFrom, answerPast}
+use Rattle.capture.specs.Words.{textOf}
+use Rattle.capture.specs.Steps.{textAt, flawIn, textIn}
 use Rattle.text.specs.declared.Verdict.the-variants.{Fine}
 use Rattle.capture.specs.Answers.{Told}
 use Rattle.capture.proofs.TextLaws.{text-start, text-bad, text-within, first-from, length-on, flaw-on, sets-on, text-end}
 use Rattle.capture.proofs.write_text.Statement.{statement}
 use Rattle.capture.proofs.write_text.Tie as tie
-use Rattle.capture.proofs.write_text.Reads as reads
-use Rattle.capture.proofs.write_text.Lts as lts
-use Rattle.capture.proofs.put_record.Reads as put-record-reads
-use Rattle.capture.proofs.record_len.Reads as record-len-reads
 
 abbrev Inv-loop : tie.InvT-loop
 Inv-loop records out₀ p₀ at₀ out p at =

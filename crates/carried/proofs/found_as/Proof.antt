@@ -4,8 +4,6 @@ use mathlib.Core.Path.{sym, ap}
 use Rattle.carried.specs.Carried.{foundAs}
 use Rattle.carried.proofs.found_as.Statement.{statement}
 use Rattle.carried.proofs.found_as.Tie as tie
-use Rattle.carried.proofs.found_as.Reads as reads
-use Rattle.carried.proofs.found_as.Lts as lts
 
 -- src/lib.rt:27:23
 enum-known-f : tie.Need-enum-known-f

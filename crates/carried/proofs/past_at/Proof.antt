@@ -6,9 +6,6 @@ use Rattle.carried.specs.Carried.{pastBy, pastAt}
 use Rattle.carried.proofs.CarriedLaws.{yield-within}
 use Rattle.carried.proofs.past_at.Statement.{statement}
 use Rattle.carried.proofs.past_at.Tie as tie
-use Rattle.carried.proofs.past_at.Reads as reads
-use Rattle.carried.proofs.past_at.Lts as lts
-use Rattle.carried.proofs.yield_at.Reads as yield-at-reads
 
 -- src/lib.rt:46:11
 yield-at-requires : tie.Need-yield-at-requires

@@ -4,11 +4,6 @@ use mathlib.Core.Path.{sym, _∙_}
 use Rattle.carried.proofs.CarriedLaws.{yields-found, yields-flaw}
 use Rattle.carried.proofs.yield_at.Statement.{statement}
 use Rattle.carried.proofs.yield_at.Tie as tie
-use Rattle.carried.proofs.yield_at.Reads as reads
-use Rattle.carried.proofs.yield_at.Lts as lts
-use Rattle.carried.proofs.found_as.Reads as found-as-reads
-use Rattle.terms.proofs.lexical.Reads as lexical-reads
-use Rattle.terms.proofs.term_at.Reads as term-at-reads
 
 -- src/lib.rt:36:11
 lexical-requires : tie.Need-lexical-requires

@@ -1,13 +1,8 @@
-use mathlib.Core.Path.{_≡_, refl, sym, ap, _∙_}
+use mathlib.Core.Path.{sym, ap, _∙_}
 use Rattle.clp.specs.Face.{told, answerOf}
 use borrow.Author.Needs.{needs}
 use Rattle.clp.proofs.answer_of.Statement.{statement}
 use Rattle.clp.proofs.answer_of.Tie as tie
-use Rattle.clp.proofs.answer_of.Reads as reads
-use Rattle.clp.proofs.answer_of.Lts as lts
-use Rattle.clp.proofs.gives.Reads as gives-reads
-use Rattle.clp.proofs.refused.Reads as refused-reads
-use Rattle.clp.proofs.wide.Reads as wide-reads
 
 -- src/lib.rt:82:23
 enum-known-a : tie.Need-enum-known-a

@@ -1,12 +1,8 @@
-use mathlib.Core.Path.{_≡_, refl, sym, ap, _∙_}
+use mathlib.Core.Path.{ap, _∙_}
 use Rattle.clp.specs.Face.{answerOf}
 use borrow.Author.Needs.{needs}
 use Rattle.clp.proofs.clp_canonical.Statement.{statement}
 use Rattle.clp.proofs.clp_canonical.Tie as tie
-use Rattle.clp.proofs.clp_canonical.Reads as reads
-use Rattle.clp.proofs.clp_canonical.Lts as lts
-use Rattle.canonical.proofs.canonical.Reads as canonical-reads
-use Rattle.clp.proofs.answer_of.Reads as answer-of-reads
 
 -- src/lib.rt:265:15
 canonical-requires : tie.Need-canonical-requires

@@ -1,12 +1,8 @@
-use mathlib.Core.Path.{_≡_, refl, sym, ap, _∙_}
+use mathlib.Core.Path.{ap, _∙_}
 use Rattle.clp.specs.Face.{checkedOf}
 use borrow.Author.Needs.{needs}
 use Rattle.clp.proofs.clp_check_tree.Statement.{statement}
 use Rattle.clp.proofs.clp_check_tree.Tie as tie
-use Rattle.clp.proofs.clp_check_tree.Reads as reads
-use Rattle.clp.proofs.clp_check_tree.Lts as lts
-use Rattle.clp.proofs.checked_of.Reads as checked-of-reads
-use Rattle.tree.proofs.check.Reads as check-reads
 
 -- src/lib.rt:235:16
 check-requires : tie.Need-check-requires

@@ -1,14 +1,8 @@
-use mathlib.Core.Path.{_≡_, refl, sym, ap, _∙_}
+use mathlib.Core.Path.{_∙_}
 use Rattle.clp.proofs.FaceLaws.{none-end, end-told}
 use borrow.Author.Needs.{needs}
 use Rattle.clp.proofs.clp_end.Statement.{statement}
 use Rattle.clp.proofs.clp_end.Tie as tie
-use Rattle.clp.proofs.clp_end.Reads as reads
-use Rattle.clp.proofs.clp_end.Lts as lts
-use Rattle.clp.proofs.end_of.Reads as end-of-reads
-use Rattle.clp.proofs.refused.Reads as refused-reads
-use Rattle.clp.proofs.state_of.Reads as state-of-reads
-use Rattle.joiner.proofs.Joiner.end.Reads as end-reads
 
 -- src/lib.rt:183:9
 refused-requires : tie.Need-refused-requires

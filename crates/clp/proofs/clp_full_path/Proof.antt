@@ -1,12 +1,8 @@
-use mathlib.Core.Path.{_≡_, refl, sym, ap, _∙_}
+use mathlib.Core.Path.{ap, _∙_}
 use Rattle.clp.specs.Face.{answerOf}
 use borrow.Author.Needs.{needs}
 use Rattle.clp.proofs.clp_full_path.Statement.{statement}
 use Rattle.clp.proofs.clp_full_path.Tie as tie
-use Rattle.clp.proofs.clp_full_path.Reads as reads
-use Rattle.clp.proofs.clp_full_path.Lts as lts
-use Rattle.clp.proofs.answer_of.Reads as answer-of-reads
-use Rattle.tree.proofs.full_path.Reads as full-path-reads
 
 -- src/lib.rt:244:15
 full-path-requires : tie.Need-full-path-requires

@@ -1,15 +1,8 @@
-use mathlib.Core.Path.{_≡_, refl, sym, ap, _∙_}
+use mathlib.Core.Path.{_∙_}
 use Rattle.clp.proofs.FaceLaws.{none-join, none-buffer, join-low, join-told, buffer-told}
 use borrow.Author.Needs.{needs}
 use Rattle.clp.proofs.clp_join.Statement.{statement}
 use Rattle.clp.proofs.clp_join.Tie as tie
-use Rattle.clp.proofs.clp_join.Reads as reads
-use Rattle.clp.proofs.clp_join.Lts as lts
-use Rattle.clp.proofs.joined.Reads as joined-reads
-use Rattle.clp.proofs.no_call.Reads as no-call-reads
-use Rattle.clp.proofs.outcome_of.Reads as outcome-of-reads
-use Rattle.clp.proofs.state_of.Reads as state-of-reads
-use Rattle.joiner.proofs.Joiner.join.Reads as join-reads
 
 -- src/lib.rt:169:9
 no-call-requires : tie.Need-no-call-requires

@@ -1,15 +1,8 @@
-use mathlib.Core.Path.{_≡_, refl, sym, ap, _∙_}
+use mathlib.Core.Path.{_∙_}
 use Rattle.clp.proofs.FaceLaws.{none-list, none-list-buffer, none-list-room, list-low, list-told, list-buffer-told, list-room-told}
 use borrow.Author.Needs.{needs}
 use Rattle.clp.proofs.clp_list.Statement.{statement}
 use Rattle.clp.proofs.clp_list.Tie as tie
-use Rattle.clp.proofs.clp_list.Reads as reads
-use Rattle.clp.proofs.clp_list.Lts as lts
-use Rattle.capture.proofs.next_answer.Reads as next-answer-reads
-use Rattle.clp.proofs.joined.Reads as joined-reads
-use Rattle.clp.proofs.no_call.Reads as no-call-reads
-use Rattle.clp.proofs.stands_of.Reads as stands-of-reads
-use Rattle.clp.proofs.state_of.Reads as state-of-reads
 
 -- src/lib.rt:340:9
 no-call-requires : tie.Need-no-call-requires

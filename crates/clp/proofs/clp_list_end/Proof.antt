@@ -1,14 +1,8 @@
-use mathlib.Core.Path.{_≡_, refl, sym, ap, _∙_}
+use mathlib.Core.Path.{_∙_}
 use Rattle.clp.proofs.FaceLaws.{none-list-end, none-end-room, list-end-told, end-room-told}
 use borrow.Author.Needs.{needs}
 use Rattle.clp.proofs.clp_list_end.Statement.{statement}
 use Rattle.clp.proofs.clp_list_end.Tie as tie
-use Rattle.clp.proofs.clp_list_end.Reads as reads
-use Rattle.clp.proofs.clp_list_end.Lts as lts
-use Rattle.capture.proofs.end_answer.Reads as end-answer-reads
-use Rattle.clp.proofs.refused.Reads as refused-reads
-use Rattle.clp.proofs.stands_of.Reads as stands-of-reads
-use Rattle.clp.proofs.state_of.Reads as state-of-reads
 
 -- src/lib.rt:355:9
 refused-requires : tie.Need-refused-requires

@@ -1,12 +1,8 @@
-use mathlib.Core.Path.{_≡_, refl, sym, ap, _∙_}
+use mathlib.Core.Path.{ap, _∙_}
 use Rattle.clp.specs.Face.{termOf}
 use borrow.Author.Needs.{needs}
 use Rattle.clp.proofs.clp_next_term.Statement.{statement}
 use Rattle.clp.proofs.clp_next_term.Tie as tie
-use Rattle.clp.proofs.clp_next_term.Reads as reads
-use Rattle.clp.proofs.clp_next_term.Lts as lts
-use Rattle.carried.proofs.yield_at.Reads as yield-at-reads
-use Rattle.clp.proofs.term_of.Reads as term-of-reads
 
 -- src/lib.rt:216:13
 yield-at-requires : tie.Need-yield-at-requires

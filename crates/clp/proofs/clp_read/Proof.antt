@@ -1,12 +1,8 @@
-use mathlib.Core.Path.{_≡_, refl, sym, ap, _∙_}
+use mathlib.Core.Path.{ap, _∙_}
 use Rattle.clp.specs.Face.{answerOf}
 use borrow.Author.Needs.{needs}
 use Rattle.clp.proofs.clp_read.Statement.{statement}
 use Rattle.clp.proofs.clp_read.Tie as tie
-use Rattle.clp.proofs.clp_read.Reads as reads
-use Rattle.clp.proofs.clp_read.Lts as lts
-use Rattle.clp.proofs.answer_of.Reads as answer-of-reads
-use Rattle.reading.proofs.read.Reads as read-reads
 
 -- src/lib.rt:205:15
 read-requires : tie.Need-read-requires

@@ -1,12 +1,8 @@
-use mathlib.Core.Path.{_≡_, refl, sym, ap, _∙_}
+use mathlib.Core.Path.{ap, _∙_}
 use Rattle.clp.specs.Face.{answerOf}
 use borrow.Author.Needs.{needs}
 use Rattle.clp.proofs.clp_records_text.Statement.{statement}
 use Rattle.clp.proofs.clp_records_text.Tie as tie
-use Rattle.clp.proofs.clp_records_text.Reads as reads
-use Rattle.clp.proofs.clp_records_text.Lts as lts
-use Rattle.capture.proofs.records_text.Reads as records-text-reads
-use Rattle.clp.proofs.answer_of.Reads as answer-of-reads
 
 -- src/lib.rt:318:15
 records-text-requires : tie.Need-records-text-requires

@@ -1,12 +1,8 @@
-use mathlib.Core.Path.{_≡_, refl, sym, ap, _∙_}
+use mathlib.Core.Path.{ap, _∙_}
 use Rattle.clp.specs.Face.{resolvedOf}
 use borrow.Author.Needs.{needs}
 use Rattle.clp.proofs.clp_resolve.Statement.{statement}
 use Rattle.clp.proofs.clp_resolve.Tie as tie
-use Rattle.clp.proofs.clp_resolve.Reads as reads
-use Rattle.clp.proofs.clp_resolve.Lts as lts
-use Rattle.clp.proofs.resolved_of.Reads as resolved-of-reads
-use Rattle.tree.proofs.resolve.Reads as resolve-reads
 
 -- src/lib.rt:291:17
 resolve-requires : tie.Need-resolve-requires

@@ -1,12 +1,8 @@
-use mathlib.Core.Path.{_≡_, refl, sym, ap, _∙_}
+use mathlib.Core.Path.{ap, _∙_}
 use Rattle.clp.specs.Face.{partOf}
 use borrow.Author.Needs.{needs}
 use Rattle.clp.proofs.clp_target.Statement.{statement}
 use Rattle.clp.proofs.clp_target.Tie as tie
-use Rattle.clp.proofs.clp_target.Reads as reads
-use Rattle.clp.proofs.clp_target.Lts as lts
-use Rattle.clp.proofs.part_of.Reads as part-of-reads
-use Rattle.reading.proofs.target_span.Reads as target-span-reads
 
 -- src/lib.rt:222:13
 target-span-requires : tie.Need-target-span-requires

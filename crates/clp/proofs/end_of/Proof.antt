@@ -1,12 +1,8 @@
-use mathlib.Core.Path.{_≡_, refl, sym, ap, _∙_}
-use Rattle.clp.specs.Face.{told, endAnswer}
+use mathlib.Core.Path.{sym, ap, _∙_}
+use Rattle.clp.specs.Face.{endAnswer}
 use borrow.Author.Needs.{needs}
 use Rattle.clp.proofs.end_of.Statement.{statement}
 use Rattle.clp.proofs.end_of.Tie as tie
-use Rattle.clp.proofs.end_of.Reads as reads
-use Rattle.clp.proofs.end_of.Lts as lts
-use Rattle.clp.proofs.gives.Reads as gives-reads
-use Rattle.clp.proofs.refused.Reads as refused-reads
 
 -- src/lib.rt:156:25
 enum-told : tie.Need-enum-told

@@ -1,12 +1,7 @@
-use mathlib.Core.Path.{_≡_, refl, sym, ap, _∙_}
 use Rattle.clp.proofs.FaceLaws.{with-as}
 use borrow.Author.Needs.{needs}
 use Rattle.clp.proofs.joined.Statement.{statement}
 use Rattle.clp.proofs.joined.Tie as tie
-use Rattle.clp.proofs.joined.Reads as reads
-use Rattle.clp.proofs.joined.Lts as lts
-use Rattle.clp.proofs.number_of.Reads as number-of-reads
-use Rattle.clp.proofs.wide.Reads as wide-reads
 
 -- src/lib.rt:135:15
 wide-requires : tie.Need-wide-requires

@@ -1,12 +1,7 @@
-use mathlib.Core.Path.{_≡_, refl, sym, ap, _∙_}
 use Rattle.clp.proofs.FaceLaws.{number-told}
 use borrow.Author.Needs.{needs}
 use Rattle.clp.proofs.number_of.Statement.{statement}
 use Rattle.clp.proofs.number_of.Tie as tie
-use Rattle.clp.proofs.number_of.Reads as reads
-use Rattle.clp.proofs.number_of.Lts as lts
-use Rattle.clp.proofs.mark.Reads as mark-reads
-use Rattle.clp.proofs.wide.Reads as wide-reads
 
 -- src/lib.rt:103:5
 wide-requires : tie.Need-wide-requires

@@ -1,11 +1,7 @@
-use mathlib.Core.Path.{_≡_, refl, sym, ap, _∙_}
 use Rattle.clp.proofs.FaceLaws.{part-as}
 use borrow.Author.Needs.{needs}
 use Rattle.clp.proofs.part_of.Statement.{statement}
 use Rattle.clp.proofs.part_of.Tie as tie
-use Rattle.clp.proofs.part_of.Reads as reads
-use Rattle.clp.proofs.part_of.Lts as lts
-use Rattle.clp.proofs.wide.Reads as wide-reads
 
 -- src/lib.rt:212:19
 wide-requires : tie.Need-wide-requires

@@ -1,12 +1,7 @@
-use mathlib.Core.Path.{_≡_, refl, sym, ap, _∙_}
 use Rattle.clp.proofs.FaceLaws.{told-as}
 use borrow.Author.Needs.{needs}
 use Rattle.clp.proofs.refused.Statement.{statement}
 use Rattle.clp.proofs.refused.Tie as tie
-use Rattle.clp.proofs.refused.Reads as reads
-use Rattle.clp.proofs.refused.Lts as lts
-use Rattle.clp.proofs.wide.Reads as wide-reads
-use Rattle.clp.proofs.wide_byte.Reads as wide-byte-reads
 
 -- src/lib.rt:73:17
 wide-byte-requires : tie.Need-wide-byte-requires

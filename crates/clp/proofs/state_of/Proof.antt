@@ -1,9 +1,7 @@
-use mathlib.Core.Path.{refl, sym, ap, _∙_}
+use mathlib.Core.Path.{refl}
 use Rattle.clp.specs.State.{stateOf}
 use Rattle.clp.proofs.state_of.Statement.{statement}
 use Rattle.clp.proofs.state_of.Tie as tie
-use Rattle.clp.proofs.state_of.Reads as reads
-use Rattle.clp.proofs.state_of.Lts as lts
 
 -- src/lib.rt:106:1
 returns : tie.Need-returns

@@ -1,11 +1,8 @@
-use mathlib.Core.Path.{_≡_, refl, sym, ap, _∙_}
+use mathlib.Core.Path.{refl}
 use Rattle.clp.proofs.FaceLaws.{term-as}
 use borrow.Author.Needs.{needs}
 use Rattle.clp.proofs.term.Statement.{statement}
 use Rattle.clp.proofs.term.Tie as tie
-use Rattle.clp.proofs.term.Reads as reads
-use Rattle.clp.proofs.term.Lts as lts
-use Rattle.clp.proofs.wide.Reads as wide-reads
 
 -- src/lib.rt:197:17
 wide-requires : tie.Need-wide-requires

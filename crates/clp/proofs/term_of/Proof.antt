@@ -1,15 +1,9 @@
-use mathlib.Core.Path.{_≡_, refl, sym, ap, _∙_}
+use mathlib.Core.Path.{refl, sym, ap, _∙_}
 use Rattle.clp.specs.Face.{told, termOf}
 use Rattle.clp.proofs.FaceLaws.{term-as}
 use borrow.Author.Needs.{needs}
 use Rattle.clp.proofs.term_of.Statement.{statement}
 use Rattle.clp.proofs.term_of.Tie as tie
-use Rattle.clp.proofs.term_of.Reads as reads
-use Rattle.clp.proofs.term_of.Lts as lts
-use Rattle.clp.proofs.gives.Reads as gives-reads
-use Rattle.clp.proofs.refused.Reads as refused-reads
-use Rattle.clp.proofs.term.Reads as term-reads
-use Rattle.clp.proofs.wide.Reads as wide-reads
 
 -- src/lib.rt:205:25
 enum-known-y : tie.Need-enum-known-y

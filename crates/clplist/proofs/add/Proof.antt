@@ -1,20 +1,14 @@
 -- `clplist::add` meets its contract.
-use mathlib.Core.Path.{_≡_, refl, sym, ap, _∙_}
-use Prim.Native.Nat.{ℕ, suc, _+_, _-_, _≤_, _<_}
+use mathlib.Core.Path.{sym, _∙_}
+use Prim.Native.Nat.{_-_}
 use native.Mathlib.Omega.{arith}
-use native.Mathlib.Nat.{add-zero}
-use mathlib.Core.List.{List, []}
-use lib.ListN.{length, getD, take, drop}
-use lib.Seq.{sets}
+use lib.ListN.{length, take, drop}
 use borrow.Author.Needs.{needs}
 use Rattle.text.proofs.Slices.{length-from}
 use Rattle.capture.specs.Words.{textOf}
 use Rattle.capture.proofs.TextLaws.{wrote-within}
 use Rattle.clplist.proofs.add.Statement.{statement}
 use Rattle.clplist.proofs.add.Tie as tie
-use Rattle.clplist.proofs.add.Reads as reads
-use Rattle.clplist.proofs.add.Lts as lts
-use Rattle.capture.proofs.records_text.Reads as records-text-reads
 
 sub-records-text : tie.Need-sub-records-text
 sub-records-text c = search needs

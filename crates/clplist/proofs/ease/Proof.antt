@@ -1,18 +1,10 @@
 -- `clplist::ease` meets its contract.
-use mathlib.Core.Path.{_≡_, refl, sym, ap, _∙_}
-use Prim.Native.Nat.{ℕ, suc, _+_, _-_, _≤_, _<_}
+use mathlib.Core.Path.{sym}
 use native.Mathlib.Omega.{arith}
-use native.Mathlib.Nat.{add-zero}
-use mathlib.Core.List.{List, []}
-use lib.ListN.{length, getD, take, drop}
-use lib.Seq.{sets}
 use borrow.Author.Needs.{needs}
 use lib.Seq.{length-take-le}
 use Rattle.clplist.proofs.ease.Statement.{statement}
 use Rattle.clplist.proofs.ease.Tie as tie
-use Rattle.clplist.proofs.ease.Reads as reads
-use Rattle.clplist.proofs.ease.Lts as lts
-use Rattle.io.proofs.write_all.Reads as write-all-reads
 
 sub-if1 : tie.Need-sub-if1
 sub-if1 c = search needs

@@ -1,21 +1,13 @@
 -- `clplist::feed` meets its contract.
-use mathlib.Core.Path.{_≡_, refl, sym, ap, _∙_}
-use Prim.Native.Nat.{ℕ, suc, _+_, _-_, _≤_, _<_}
+use mathlib.Core.Path.{_≡_, refl}
+use Prim.Native.Nat.{_-_, _≤_}
 use native.Mathlib.Omega.{arith}
-use native.Mathlib.Nat.{add-zero}
-use mathlib.Core.List.{List, []}
-use lib.ListN.{length, getD, take, drop}
-use lib.Seq.{sets}
+use lib.ListN.{length, take, drop}
 use borrow.Author.Needs.{needs}
 use Rattle.text.proofs.Slices.{length-from}
 use Rattle.capture.proofs.ListLaws.{list-within}
 use Rattle.clplist.proofs.feed.Statement.{statement}
 use Rattle.clplist.proofs.feed.Tie as tie
-use Rattle.clplist.proofs.feed.Reads as reads
-use Rattle.clplist.proofs.feed.Lts as lts
-use Rattle.capture.proofs.next_answer.Reads as next-answer-reads
-use Rattle.clplist.proofs.ease.Reads as ease-reads
-use Rattle.clplist.proofs.show.Reads as show-reads
 
 abbrev Inv-loop : tie.InvT-loop
 Inv-loop line₀ part room₀ text₀ state₀ waiting₀ at₀ line room text state waiting at = (at ≤ length part) × (waiting ≤ length text₀) × (length line ≡ length line₀) × (length room ≡ length room₀) × (length text ≡ length text₀)

@@ -1,20 +1,10 @@
 -- `clplist::finish` meets its contract.
-use mathlib.Core.Path.{_≡_, refl, sym, ap, _∙_}
-use Prim.Native.Nat.{ℕ, suc, _+_, _-_, _≤_, _<_}
+use mathlib.Core.Path.{sym}
 use native.Mathlib.Omega.{arith}
-use native.Mathlib.Nat.{add-zero}
-use mathlib.Core.List.{List, []}
-use lib.ListN.{length, getD, take, drop}
-use lib.Seq.{sets}
 use borrow.Author.Needs.{needs}
 use lib.Seq.{length-take-le}
 use Rattle.clplist.proofs.finish.Statement.{statement}
 use Rattle.clplist.proofs.finish.Tie as tie
-use Rattle.clplist.proofs.finish.Reads as reads
-use Rattle.clplist.proofs.finish.Lts as lts
-use Rattle.capture.proofs.end_answer.Reads as end-answer-reads
-use Rattle.clplist.proofs.show.Reads as show-reads
-use Rattle.io.proofs.write_all.Reads as write-all-reads
 
 end-answer-requires : tie.Need-end-answer-requires
 end-answer-requires c κs = search needs

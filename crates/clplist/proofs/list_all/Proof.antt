@@ -1,21 +1,11 @@
 -- `clplist::list_all` meets its contract.
-use mathlib.Core.Path.{_≡_, refl, sym, ap, _∙_}
-use Prim.Native.Nat.{ℕ, suc, _+_, _-_, _≤_, _<_}
+use mathlib.Core.Path.{_≡_, refl}
+use Prim.Native.Nat.{_≤_}
 use native.Mathlib.Omega.{arith}
-use native.Mathlib.Nat.{add-zero}
-use mathlib.Core.List.{List, []}
-use lib.ListN.{length, getD, take, drop}
-use lib.Seq.{sets}
+use lib.ListN.{length}
 use borrow.Author.Needs.{needs}
 use Rattle.clplist.proofs.list_all.Statement.{statement}
 use Rattle.clplist.proofs.list_all.Tie as tie
-use Rattle.clplist.proofs.list_all.Reads as reads
-use Rattle.clplist.proofs.list_all.Lts as lts
-use Rattle.clplist.proofs.feed.Reads as feed-reads
-use Rattle.io.proofs.count.Reads as count-reads
-use Rattle.io.proofs.large_buffer.Reads as large-buffer-reads
-use Rattle.joiner.proofs.Joiner.new.Reads as new-reads
-use Rattle.libc.proofs.read.Reads as read-reads
 
 abbrev Inv-loop : tie.InvT-loop
 Inv-loop line₀ room₀ text₀ run₀ bytes₀ turns₀ line room text run bytes turns = (run .waiting ≤ length text₀) × (length line ≡ length line₀) × (length room ≡ length room₀) × (length text ≡ length text₀) × (length bytes ≡ 65536)

@@ -1,19 +1,7 @@
 -- `clplist::main` meets its contract.
-use mathlib.Core.Path.{_≡_, refl, sym, ap, _∙_}
-use Prim.Native.Nat.{ℕ, suc, _+_, _-_, _≤_, _<_}
-use native.Mathlib.Omega.{arith}
-use native.Mathlib.Nat.{add-zero}
-use mathlib.Core.List.{List, []}
-use lib.ListN.{length, getD, take, drop}
-use lib.Seq.{sets}
 use borrow.Author.Needs.{needs}
 use Rattle.clplist.proofs.main.Statement.{statement}
 use Rattle.clplist.proofs.main.Tie as tie
-use Rattle.clplist.proofs.main.Reads as reads
-use Rattle.clplist.proofs.main.Lts as lts
-use Rattle.clplist.proofs.finish.Reads as finish-reads
-use Rattle.clplist.proofs.list_all.Reads as list-all-reads
-use Rattle.io.proofs.large_buffer.Reads as large-buffer-reads
 
 large-buffer-requires : tie.Need-large-buffer-requires
 large-buffer-requires c κs = search needs

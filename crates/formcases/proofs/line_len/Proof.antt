@@ -4,8 +4,6 @@ use borrow.Author.Needs.{needs}
 use lib.ListN.{length}
 use Rattle.formcases.proofs.line_len.Statement.{statement}
 use Rattle.formcases.proofs.line_len.Tie as tie
-use Rattle.formcases.proofs.line_len.Reads as reads
-use Rattle.formcases.proofs.line_len.Lts as lts
 
 abbrev Inv-loop : tie.InvT-loop
 Inv-loop s n₀ n = n ≤ length s

@@ -1,15 +1,9 @@
 -- `formcases::segments` meets its contract. Assumes nothing.
 use Prim.Native.Nat.{_-_, _≤_}
-use native.Mathlib.Omega.{arith}
 use borrow.Author.Needs.{needs}
 use lib.ListN.{length}
-use Rattle.forms.proofs.segment_at.Reads as segment-at-reads
 use Rattle.formcases.proofs.segments.Statement.{statement}
 use Rattle.formcases.proofs.segments.Tie as tie
-use Rattle.formcases.proofs.segments.Reads as reads
-use Rattle.formcases.proofs.segments.Lts as lts
-use Rattle.formcases.proofs.after.Reads as after-reads
-use Rattle.formcases.proofs.piece.Reads as piece-reads
 
 abbrev Inv-loop : tie.InvT-loop
 Inv-loop t i₀ i = i ≤ length t

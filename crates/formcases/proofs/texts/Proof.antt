@@ -4,10 +4,6 @@ use borrow.Author.Needs.{needs}
 use lib.ListN.{length}
 use Rattle.formcases.proofs.texts.Statement.{statement}
 use Rattle.formcases.proofs.texts.Tie as tie
-use Rattle.formcases.proofs.texts.Reads as reads
-use Rattle.formcases.proofs.texts.Lts as lts
-use Rattle.formcases.proofs.line_len.Reads as line-len-reads
-use Rattle.formcases.proofs.show.Reads as show-reads
 
 abbrev Inv-loop : tie.InvT-loop
 Inv-loop s at₀ at = at ≤ length s + 1

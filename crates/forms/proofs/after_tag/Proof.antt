@@ -1,15 +1,11 @@
 -- `forms::after_tag` meets its contract. Assumes nothing.
-use mathlib.Core.Path.{_≡_, sym, ap, _∙_}
+use mathlib.Core.Path.{sym, _∙_}
 use native.Mathlib.Omega.{arith}
 use borrow.Author.Needs.{needs}
 use Rattle.text.specs.Bytes.{bytes}
-use Rattle.text.proofs.same.Reads as same-reads
 use Rattle.forms.proofs.SegmentLaws.{number-most, tag-number, tag-star, tag-none}
 use Rattle.forms.proofs.after_tag.Statement.{statement}
 use Rattle.forms.proofs.after_tag.Tie as tie
-use Rattle.forms.proofs.after_tag.Reads as reads
-use Rattle.forms.proofs.after_tag.Lts as lts
-use Rattle.forms.proofs.number_of.Reads as number-of-reads
 
 number-of-requires : tie.Need-number-of-requires
 number-of-requires c κs = search needs

@@ -1,6 +1,6 @@
 -- `forms::are_entries` meets its contract. Assumes nothing.
-use Prim.Native.Nat.{_+_, _-_, _≤_}
-use mathlib.Core.Path.{_≡_, refl, sym, ap, _∙_}
+use Prim.Native.Nat.{_-_, _≤_}
+use mathlib.Core.Path.{_≡_, refl, sym, _∙_}
 use native.Mathlib.Omega.{arith}
 use borrow.Author.Needs.{needs}
 use borrow.Author.Tests.{not-true, not-false}
@@ -12,11 +12,6 @@ use Rattle.forms.specs.Forms.{entriesOf}
 use Rattle.forms.proofs.EntryLaws.{entry-end, entries-last, entries-next, entries-bad}
 use Rattle.forms.proofs.are_entries.Statement.{statement}
 use Rattle.forms.proofs.are_entries.Tie as tie
-use Rattle.forms.proofs.are_entries.Reads as reads
-use Rattle.forms.proofs.are_entries.Lts as lts
-use Rattle.forms.proofs.end_of.Reads as end-of-reads
-use Rattle.forms.proofs.entry_len.Reads as entry-len-reads
-use Rattle.forms.proofs.is_entry.Reads as is-entry-reads
 
 abbrev Inv-loop : tie.InvT-loop
 Inv-loop s n end at₀ at = (at ≤ end) × (end ≤ length s) × (isSome (entriesOf (signs Out (drop at (take n s)))) ≡ areEntriesIn s n)

@@ -1,14 +1,9 @@
 -- `forms::at_end` meets its contract. Assumes nothing.
-use mathlib.Core.Path.{_≡_, sym, ap, _∙_}
+use mathlib.Core.Path.{ap, _∙_}
 use borrow.Author.Needs.{needs}
 use Rattle.forms.specs.Automata.{textOver, textEnd, whole}
 use Rattle.forms.proofs.at_end.Statement.{statement}
 use Rattle.forms.proofs.at_end.Tie as tie
-use Rattle.forms.proofs.at_end.Reads as reads
-use Rattle.forms.proofs.at_end.Lts as lts
-use Rattle.forms.proofs.is_whole.Reads as is-whole-reads
-use Rattle.forms.proofs.on_bare.Reads as on-bare-reads
-use Rattle.forms.proofs.on_quoted.Reads as on-quoted-reads
 
 enum-told : tie.Need-enum-told
 enum-told c = search needs

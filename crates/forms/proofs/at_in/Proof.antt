@@ -5,10 +5,6 @@ use Rattle.terms.specs.Signs.{gives}
 use Rattle.forms.specs.Automata.{textOver}
 use Rattle.forms.proofs.at_in.Statement.{statement}
 use Rattle.forms.proofs.at_in.Tie as tie
-use Rattle.forms.proofs.at_in.Reads as reads
-use Rattle.forms.proofs.at_in.Lts as lts
-use Rattle.forms.proofs.on_quote.Reads as on-quote-reads
-use Rattle.forms.proofs.on_quoted.Reads as on-quoted-reads
 
 returns : tie.Need-returns
 unfolding gives textOver

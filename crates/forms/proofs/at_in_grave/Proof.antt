@@ -1,15 +1,11 @@
 -- `forms::at_in_grave` meets its contract. Assumes nothing.
-use mathlib.Core.Path.{_≡_, sym, ap, _∙_}
+use mathlib.Core.Path.{sym, ap, _∙_}
 use borrow.Author.Needs.{needs}
 use Rattle.terms.specs.Signs.{gives, quoted}
-use Rattle.terms.proofs.is_two.Reads as is-two-reads
 use Rattle.forms.specs.Automata.{textOver, textStep}
 use Rattle.forms.proofs.TextLaws.{quoted-both}
 use Rattle.forms.proofs.at_in_grave.Statement.{statement}
 use Rattle.forms.proofs.at_in_grave.Tie as tie
-use Rattle.forms.proofs.at_in_grave.Reads as reads
-use Rattle.forms.proofs.at_in_grave.Lts as lts
-use Rattle.forms.proofs.on_quoted.Reads as on-quoted-reads
 
 is-two-requires : tie.Need-is-two-requires
 is-two-requires c κs = search needs

@@ -5,10 +5,6 @@ use Rattle.terms.specs.Signs.{gives}
 use Rattle.forms.specs.Automata.{textOver}
 use Rattle.forms.proofs.at_out.Statement.{statement}
 use Rattle.forms.proofs.at_out.Tie as tie
-use Rattle.forms.proofs.at_out.Reads as reads
-use Rattle.forms.proofs.at_out.Lts as lts
-use Rattle.forms.proofs.on_bare.Reads as on-bare-reads
-use Rattle.forms.proofs.on_quote.Reads as on-quote-reads
 
 returns : tie.Need-returns
 unfolding gives textOver

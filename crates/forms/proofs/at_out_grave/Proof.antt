@@ -1,15 +1,10 @@
 -- `forms::at_out_grave` meets its contract. Assumes nothing.
-use mathlib.Core.Path.{_≡_, sym, ap, _∙_}
+use mathlib.Core.Path.{sym, ap, _∙_}
 use borrow.Author.Needs.{needs}
 use Rattle.terms.specs.Signs.{gives, bare}
-use Rattle.terms.proofs.is_twelve.Reads as is-twelve-reads
 use Rattle.forms.specs.Automata.{textOver, textStep}
 use Rattle.forms.proofs.at_out_grave.Statement.{statement}
 use Rattle.forms.proofs.at_out_grave.Tie as tie
-use Rattle.forms.proofs.at_out_grave.Reads as reads
-use Rattle.forms.proofs.at_out_grave.Lts as lts
-use Rattle.forms.proofs.on_bare.Reads as on-bare-reads
-use Rattle.forms.proofs.on_escaped.Reads as on-escaped-reads
 
 is-twelve-requires : tie.Need-is-twelve-requires
 is-twelve-requires c κs = search needs

@@ -2,12 +2,6 @@
 use borrow.Author.Needs.{needs}
 use Rattle.forms.proofs.at_step.Statement.{statement}
 use Rattle.forms.proofs.at_step.Tie as tie
-use Rattle.forms.proofs.at_step.Reads as reads
-use Rattle.forms.proofs.at_step.Lts as lts
-use Rattle.forms.proofs.at_in.Reads as at-in-reads
-use Rattle.forms.proofs.at_in_grave.Reads as at-in-grave-reads
-use Rattle.forms.proofs.at_out.Reads as at-out-reads
-use Rattle.forms.proofs.at_out_grave.Reads as at-out-grave-reads
 
 enum-told : tie.Need-enum-told
 enum-told c = search needs

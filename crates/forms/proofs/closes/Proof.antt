@@ -1,14 +1,11 @@
 -- `forms::closes` meets its contract. Assumes nothing.
 use Prim.Native.Nat.{suc}
-use mathlib.Core.Path.{_≡_, sym, ap, _∙_}
+use mathlib.Core.Path.{sym, _∙_}
 use native.Mathlib.Omega.{arith}
 use borrow.Author.Tests.{not-true, not-false, le-leb, lt-leb}
 use borrow.Author.Needs.{needs}
 use Rattle.forms.proofs.closes.Statement.{statement}
 use Rattle.forms.proofs.closes.Tie as tie
-use Rattle.forms.proofs.closes.Reads as reads
-use Rattle.forms.proofs.closes.Lts as lts
-use Rattle.forms.proofs.is_whole.Reads as is-whole-reads
 
 is-whole-requires : tie.Need-is-whole-requires
 is-whole-requires c κs = search needs

@@ -1,12 +1,8 @@
 -- `forms::end_of` meets its contract. Assumes nothing.
-use mathlib.Core.Path.{_≡_, sym, ap, _∙_}
 use native.Mathlib.Omega.{arith}
-use borrow.Author.Needs.{needs}
 use lib.ListN.{length-take}
 use Rattle.forms.proofs.end_of.Statement.{statement}
 use Rattle.forms.proofs.end_of.Tie as tie
-use Rattle.forms.proofs.end_of.Reads as reads
-use Rattle.forms.proofs.end_of.Lts as lts
 
 returns : tie.Need-returns
 returns c = omega (arith, length-take (c .before .args .n) (c .before .args .s .now))

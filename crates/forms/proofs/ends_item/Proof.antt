@@ -1,11 +1,8 @@
 -- `forms::ends_item` meets its contract. Assumes nothing.
-use mathlib.Core.Path.{_≡_, sym, ap, _∙_}
+use mathlib.Core.Path.{sym, _∙_}
 use borrow.Author.Needs.{needs}
 use Rattle.forms.proofs.ends_item.Statement.{statement}
 use Rattle.forms.proofs.ends_item.Tie as tie
-use Rattle.forms.proofs.ends_item.Reads as reads
-use Rattle.forms.proofs.ends_item.Lts as lts
-use Rattle.forms.proofs.is_bare.Reads as is-bare-reads
 
 is-bare-requires : tie.Need-is-bare-requires
 is-bare-requires c κs = search needs

@@ -1,22 +1,16 @@
 -- `forms::entry_len` meets its contract. Assumes nothing.
 use Prim.Native.Nat.{_+_, _-_, _≤_}
 use mathlib.Core.Bool.{false}
-use mathlib.Core.Path.{_≡_, refl, sym, ap, _∙_}
+use mathlib.Core.Path.{_≡_, sym, _∙_}
 use native.Mathlib.Omega.{arith}
 use borrow.Author.Needs.{needs}
-use lib.ListN.{length, take, drop}
+use lib.ListN.{take, drop}
 use Rattle.terms.specs.declared.Mode.the-variants.{Out}
-use Rattle.terms.proofs.step.Reads as step-reads
 use Rattle.forms.specs.Automata.{entryLen}
 use Rattle.forms.proofs.EntryLaws.{entry-on, entry-ends, entry-past}
 use Rattle.forms.proofs.Lists.{taken-within}
 use Rattle.forms.proofs.entry_len.Statement.{statement}
 use Rattle.forms.proofs.entry_len.Tie as tie
-use Rattle.forms.proofs.entry_len.Reads as reads
-use Rattle.forms.proofs.entry_len.Lts as lts
-use Rattle.forms.proofs.end_of.Reads as end-of-reads
-use Rattle.forms.proofs.is_comma.Reads as is-comma-reads
-use Rattle.forms.proofs.is_listed.Reads as is-listed-reads
 
 abbrev Inv-loop : tie.InvT-loop
 Inv-loop s n end i₀ m₀ listed₀ i m listed = (i ≤ end) × (i + entryLen m listed (drop i (take n s)) ≡ entryLen Out false (take n s))

@@ -2,8 +2,6 @@
 use borrow.Author.Needs.{needs}
 use Rattle.forms.proofs.is_bare.Statement.{statement}
 use Rattle.forms.proofs.is_bare.Tie as tie
-use Rattle.forms.proofs.is_bare.Reads as reads
-use Rattle.forms.proofs.is_bare.Lts as lts
 
 enum-told : tie.Need-enum-told
 enum-told c = search needs

@@ -1,12 +1,9 @@
 -- `forms::is_comma` meets its contract. Assumes nothing.
-use mathlib.Core.Path.{_≡_, sym, ap, _∙_}
+use mathlib.Core.Path.{_∙_}
 use borrow.Author.Needs.{needs}
 use Rattle.forms.proofs.EntryLaws.{comma-listed, comma-bare}
 use Rattle.forms.proofs.is_comma.Statement.{statement}
 use Rattle.forms.proofs.is_comma.Tie as tie
-use Rattle.forms.proofs.is_comma.Reads as reads
-use Rattle.forms.proofs.is_comma.Lts as lts
-use Rattle.forms.proofs.is_bare.Reads as is-bare-reads
 
 returns : tie.Need-returns
 returns c = rw (c .if1 .taken) (comma-listed (c .before .args .m) (c .before .args .b))

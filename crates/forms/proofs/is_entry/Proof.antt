@@ -1,6 +1,6 @@
 -- `forms::is_entry` meets its contract. Assumes nothing.
 use Prim.Native.Nat.{_≤_, _+_}
-use mathlib.Core.Path.{_≡_, sym, ap, _∙_}
+use mathlib.Core.Path.{_≡_, sym, _∙_}
 use native.Mathlib.Omega.{arith}
 use borrow.Author.Tests.{not-true, not-false}
 use borrow.Author.Needs.{needs}
@@ -8,12 +8,6 @@ use lib.ListN.{length, take}
 use Rattle.forms.proofs.PropertyLaws.{entry-unnamed, entry-mere, entry-not, entry-one, value-within}
 use Rattle.forms.proofs.is_entry.Statement.{statement}
 use Rattle.forms.proofs.is_entry.Tie as tie
-use Rattle.forms.proofs.is_entry.Reads as reads
-use Rattle.forms.proofs.is_entry.Lts as lts
-use Rattle.forms.proofs.end_of.Reads as end-of-reads
-use Rattle.forms.proofs.is_equal.Reads as is-equal-reads
-use Rattle.forms.proofs.is_value.Reads as is-value-reads
-use Rattle.forms.proofs.name_len.Reads as name-len-reads
 
 name-len-requires : tie.Need-name-len-requires
 name-len-requires c κs = search needs

@@ -1,17 +1,10 @@
 -- `forms::is_equal` meets its contract. Assumes nothing.
-use mathlib.Core.Path.{_≡_, sym, ap, _∙_}
 use native.Mathlib.Omega.{arith}
-use borrow.Author.Tests.{lt-ltb, le-ltb}
 use borrow.Author.Needs.{needs}
-use lib.Seq.{getD-take}
-use lib.ListN.{length, take, getD}
 use Rattle.forms.proofs.PropertyLaws.{equal-within, equal-past}
 use Rattle.forms.proofs.Lists.{taken-within}
 use Rattle.forms.proofs.is_equal.Statement.{statement}
 use Rattle.forms.proofs.is_equal.Tie as tie
-use Rattle.forms.proofs.is_equal.Reads as reads
-use Rattle.forms.proofs.is_equal.Lts as lts
-use Rattle.forms.proofs.end_of.Reads as end-of-reads
 
 end-of-requires : tie.Need-end-of-requires
 end-of-requires c κs = search needs

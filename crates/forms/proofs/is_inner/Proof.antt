@@ -2,8 +2,6 @@
 use borrow.Author.Needs.{needs}
 use Rattle.forms.proofs.is_inner.Statement.{statement}
 use Rattle.forms.proofs.is_inner.Tie as tie
-use Rattle.forms.proofs.is_inner.Reads as reads
-use Rattle.forms.proofs.is_inner.Lts as lts
 
 enum-told : tie.Need-enum-told
 enum-told c = search needs

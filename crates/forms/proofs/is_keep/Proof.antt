@@ -1,12 +1,9 @@
 -- `forms::is_keep` meets its contract. Assumes nothing.
-use mathlib.Core.Path.{_≡_, sym, ap, _∙_}
+use mathlib.Core.Path.{sym, _∙_}
 use borrow.Author.Needs.{needs}
-use Rattle.text.proofs.decimal.Reads as decimal-reads
 use Rattle.forms.proofs.ArgumentLaws.{keep-is, keep-not}
 use Rattle.forms.proofs.is_keep.Statement.{statement}
 use Rattle.forms.proofs.is_keep.Tie as tie
-use Rattle.forms.proofs.is_keep.Reads as reads
-use Rattle.forms.proofs.is_keep.Lts as lts
 
 decimal-requires : tie.Need-decimal-requires
 decimal-requires c κs = search needs

@@ -1,13 +1,9 @@
 -- `forms::is_level` meets its contract. Assumes nothing.
-use mathlib.Core.Path.{_≡_, sym, ap, _∙_}
+use mathlib.Core.Path.{sym, _∙_}
 use borrow.Author.Needs.{needs}
-use Rattle.words.proofs.is_all.Reads as is-all-reads
 use Rattle.forms.proofs.ArgumentLaws.{level-keep, level-all}
 use Rattle.forms.proofs.is_level.Statement.{statement}
 use Rattle.forms.proofs.is_level.Tie as tie
-use Rattle.forms.proofs.is_level.Reads as reads
-use Rattle.forms.proofs.is_level.Lts as lts
-use Rattle.forms.proofs.is_keep.Reads as is-keep-reads
 
 is-keep-requires : tie.Need-is-keep-requires
 is-keep-requires c κs = search needs

@@ -1,27 +1,19 @@
 -- `forms::is_list` meets its contract. Assumes nothing.
 use Prim.Native.Nat.{suc, _+_, _-_, _≤_}
 use mathlib.Core.Bool.{_&&_}
-use mathlib.Core.Path.{_≡_, refl, sym, ap, _∙_}
+use mathlib.Core.Path.{_≡_, sym, ap, _∙_}
 use native.Mathlib.Omega.{arith}
 use borrow.Author.Needs.{needs}
 use lib.Dec.{eqb, leb}
-use lib.ListN.{length, take, drop, getD}
+use lib.ListN.{take, drop, getD}
 use Rattle.terms.specs.Signs.{signs}
 use Rattle.terms.specs.declared.Mode.the-variants.{Out}
-use Rattle.terms.proofs.step.Reads as step-reads
 use Rattle.forms.specs.Automata.{listFrom, whole}
 use Rattle.forms.specs.Forms.{isList}
 use Rattle.forms.proofs.TextLaws.{list-from, list-on, list-closes, list-past, items-grow}
 use Rattle.forms.proofs.Lists.{taken-within}
 use Rattle.forms.proofs.is_list.Statement.{statement}
 use Rattle.forms.proofs.is_list.Tie as tie
-use Rattle.forms.proofs.is_list.Reads as reads
-use Rattle.forms.proofs.is_list.Lts as lts
-use Rattle.forms.proofs.closes.Reads as closes-reads
-use Rattle.forms.proofs.end_of.Reads as end-of-reads
-use Rattle.forms.proofs.is_bare.Reads as is-bare-reads
-use Rattle.forms.proofs.items_after.Reads as items-after-reads
-use Rattle.forms.proofs.list_step.Reads as list-step-reads
 
 abbrev Inv-loop : tie.InvT-loop
 Inv-loop s n end i₀ k₀ m₀ q₀ i k m q = (k ≤ i) × (i ≤ end) × (listFrom q k (signs m (drop i (take n s))) ≡ isList (signs Out (take n s)))

@@ -1,12 +1,9 @@
 -- `forms::is_listed` meets its contract. Assumes nothing.
-use mathlib.Core.Path.{_≡_, sym, ap, _∙_}
+use mathlib.Core.Path.{sym, _∙_}
 use borrow.Author.Needs.{needs}
 use Rattle.forms.proofs.EntryLaws.{opened-by}
 use Rattle.forms.proofs.is_listed.Statement.{statement}
 use Rattle.forms.proofs.is_listed.Tie as tie
-use Rattle.forms.proofs.is_listed.Reads as reads
-use Rattle.forms.proofs.is_listed.Lts as lts
-use Rattle.forms.proofs.is_bare.Reads as is-bare-reads
 
 is-bare-requires : tie.Need-is-bare-requires
 is-bare-requires c κs = search needs

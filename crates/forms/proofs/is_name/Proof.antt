@@ -1,16 +1,13 @@
 -- `forms::is_name` meets its contract. Assumes nothing.
-use mathlib.Core.Path.{_≡_, sym, ap, _∙_}
+use mathlib.Core.Path.{ap, _∙_}
 use borrow.Author.Needs.{needs}
 use lib.Seq.{take-length}
-use lib.ListN.{length, take}
+use lib.ListN.{length}
 use lib.Dec.{eqb}
 use Rattle.forms.specs.Steps.{nameLen}
 use Rattle.forms.proofs.PropertyLaws.{name-nil, name-is}
 use Rattle.forms.proofs.is_name.Statement.{statement}
 use Rattle.forms.proofs.is_name.Tie as tie
-use Rattle.forms.proofs.is_name.Reads as reads
-use Rattle.forms.proofs.is_name.Lts as lts
-use Rattle.forms.proofs.name_len.Reads as name-len-reads
 
 returns : tie.Need-returns
 returns c = name-nil (c .before .before .args .t .now) (c .if1 .taken)

@@ -1,14 +1,11 @@
 -- `forms::is_plain` meets its contract. Assumes nothing.
-use mathlib.Core.Path.{_≡_, sym, ap, _∙_}
-use borrow.Author.Needs.{needs}
+use mathlib.Core.Path.{sym, ap}
 use borrow.Author.Tests.{ne-eqb}
 use Rattle.text.specs.Bytes.{oneOf, bytes}
 use Rattle.terms.specs.Signs.{bare}
 use Rattle.forms.specs.Forms.{isPlainSign}
 use Rattle.forms.proofs.is_plain.Statement.{statement}
 use Rattle.forms.proofs.is_plain.Tie as tie
-use Rattle.forms.proofs.is_plain.Reads as reads
-use Rattle.forms.proofs.is_plain.Lts as lts
 
 returns : tie.Need-returns
 unfolding isPlainSign oneOf bytes

@@ -1,10 +1,7 @@
 -- `forms::is_separator` meets its contract. Assumes nothing.
-use borrow.Author.Needs.{needs}
 use borrow.Author.Tests.{eq-eqb, ne-eqb}
 use Rattle.forms.proofs.is_separator.Statement.{statement}
 use Rattle.forms.proofs.is_separator.Tie as tie
-use Rattle.forms.proofs.is_separator.Reads as reads
-use Rattle.forms.proofs.is_separator.Lts as lts
 
 returns : tie.Need-returns
 returns c = simp (eq-eqb (c .before .args .b) 47 (c .if1 .taken))

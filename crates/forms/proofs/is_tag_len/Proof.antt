@@ -1,11 +1,8 @@
 -- `forms::is_tag_len` meets its contract. Assumes nothing.
 use native.Mathlib.Omega.{arith}
-use borrow.Author.Needs.{needs}
 use borrow.Author.Tests.{le-leb, lt-leb}
 use Rattle.forms.proofs.is_tag_len.Statement.{statement}
 use Rattle.forms.proofs.is_tag_len.Tie as tie
-use Rattle.forms.proofs.is_tag_len.Reads as reads
-use Rattle.forms.proofs.is_tag_len.Lts as lts
 
 returns : tie.Need-returns
 returns c = simp (lt-leb 1 (c .before .args .k) (omega arith))

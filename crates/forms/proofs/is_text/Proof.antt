@@ -1,23 +1,17 @@
 -- `forms::is_text` meets its contract. Assumes nothing.
-use Prim.Native.Nat.{_+_, _-_, _≤_}
-use mathlib.Core.Path.{_≡_, refl, sym, ap, _∙_}
+use Prim.Native.Nat.{_-_, _≤_}
+use mathlib.Core.Path.{_≡_, sym, _∙_}
 use native.Mathlib.Omega.{arith}
 use borrow.Author.Needs.{needs}
-use lib.ListN.{length, take, drop}
+use lib.ListN.{take, drop}
 use Rattle.terms.specs.Signs.{signs}
 use Rattle.terms.specs.declared.Mode.the-variants.{Out}
-use Rattle.terms.proofs.step.Reads as step-reads
 use Rattle.forms.specs.Automata.{textFrom}
 use Rattle.forms.specs.Forms.{isText}
 use Rattle.forms.proofs.TextLaws.{text-from, text-on, text-past}
 use Rattle.forms.proofs.Lists.{taken-within}
 use Rattle.forms.proofs.is_text.Statement.{statement}
 use Rattle.forms.proofs.is_text.Tie as tie
-use Rattle.forms.proofs.is_text.Reads as reads
-use Rattle.forms.proofs.is_text.Lts as lts
-use Rattle.forms.proofs.at_end.Reads as at-end-reads
-use Rattle.forms.proofs.at_step.Reads as at-step-reads
-use Rattle.forms.proofs.end_of.Reads as end-of-reads
 
 abbrev Inv-loop : tie.InvT-loop
 Inv-loop s n end i₀ m₀ q₀ i m q = (i ≤ end) × (textFrom q (signs m (drop i (take n s))) ≡ isText (signs Out (take n s)))

@@ -1,17 +1,12 @@
 -- `forms::is_value` meets its contract. Assumes nothing.
-use Prim.Native.Nat.{ℕ, _≤_, _<_}
-use mathlib.Core.Path.{_≡_, sym, ap, _∙_}
+use Prim.Native.Nat.{_≤_}
+use mathlib.Core.Path.{sym, _∙_}
 use native.Mathlib.Omega.{arith}
 use borrow.Author.Needs.{needs}
 use lib.ListN.{length, length-take}
 use Rattle.forms.proofs.ValueLaws.{empty-value, text-value, list-value}
 use Rattle.forms.proofs.is_value.Statement.{statement}
 use Rattle.forms.proofs.is_value.Tie as tie
-use Rattle.forms.proofs.is_value.Reads as reads
-use Rattle.forms.proofs.is_value.Lts as lts
-use Rattle.forms.proofs.end_of.Reads as end-of-reads
-use Rattle.forms.proofs.is_list.Reads as is-list-reads
-use Rattle.forms.proofs.is_text.Reads as is-text-reads
 
 end-of-requires : tie.Need-end-of-requires
 end-of-requires c κs = search needs

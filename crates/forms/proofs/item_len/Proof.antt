@@ -1,20 +1,15 @@
 -- `forms::item_len` meets its contract. Assumes nothing.
 use Prim.Native.Nat.{_+_, _-_, _≤_}
-use mathlib.Core.Path.{_≡_, refl, sym, ap, _∙_}
+use mathlib.Core.Path.{_≡_, sym, _∙_}
 use native.Mathlib.Omega.{arith}
 use borrow.Author.Needs.{needs}
-use lib.ListN.{length, take, drop}
+use lib.ListN.{take, drop}
 use Rattle.terms.specs.declared.Mode.the-variants.{Out}
-use Rattle.terms.proofs.step.Reads as step-reads
 use Rattle.forms.specs.Steps.{itemLen}
 use Rattle.forms.proofs.EntryLaws.{item-on, item-ends, item-past}
 use Rattle.forms.proofs.Lists.{taken-within}
 use Rattle.forms.proofs.item_len.Statement.{statement}
 use Rattle.forms.proofs.item_len.Tie as tie
-use Rattle.forms.proofs.item_len.Reads as reads
-use Rattle.forms.proofs.item_len.Lts as lts
-use Rattle.forms.proofs.end_of.Reads as end-of-reads
-use Rattle.forms.proofs.ends_item.Reads as ends-item-reads
 
 abbrev Inv-loop : tie.InvT-loop
 Inv-loop s n end i₀ m₀ i m = (i ≤ end) × (i + itemLen m (drop i (take n s)) ≡ itemLen Out (take n s))

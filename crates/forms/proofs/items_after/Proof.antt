@@ -1,12 +1,9 @@
 -- `forms::items_after` meets its contract. Assumes nothing.
-use mathlib.Core.Path.{_≡_, sym, ap, _∙_}
+use mathlib.Core.Path.{sym, _∙_}
 use borrow.Author.Needs.{needs}
 use Rattle.forms.specs.Steps.{itemsAfter}
 use Rattle.forms.proofs.items_after.Statement.{statement}
 use Rattle.forms.proofs.items_after.Tie as tie
-use Rattle.forms.proofs.items_after.Reads as reads
-use Rattle.forms.proofs.items_after.Lts as lts
-use Rattle.forms.proofs.is_bare.Reads as is-bare-reads
 
 is-bare-requires : tie.Need-is-bare-requires
 is-bare-requires c κs = search needs

@@ -1,12 +1,10 @@
 -- `forms::leads_zero` meets its contract. Assumes nothing.
-use mathlib.Core.Path.{_≡_, sym, ap, _∙_}
+use mathlib.Core.Path.{sym, ap}
 use borrow.Author.Needs.{needs}
 use lib.Dec.{eqb}
 use Rattle.forms.proofs.Lists.{empty-at}
 use Rattle.forms.proofs.leads_zero.Statement.{statement}
 use Rattle.forms.proofs.leads_zero.Tie as tie
-use Rattle.forms.proofs.leads_zero.Reads as reads
-use Rattle.forms.proofs.leads_zero.Lts as lts
 
 returns : tie.Need-returns
 returns c = sym (ap (λ b. eqb b 48) (empty-at (c .before .args .d .now) (c .if1 .taken)))

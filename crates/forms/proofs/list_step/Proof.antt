@@ -1,14 +1,9 @@
 -- `forms::list_step` meets its contract. Assumes nothing.
-use mathlib.Core.Path.{_≡_, sym, ap, _∙_}
+use mathlib.Core.Path.{sym, _∙_}
 use borrow.Author.Needs.{needs}
 use Rattle.forms.specs.Steps.{listStep}
 use Rattle.forms.proofs.list_step.Statement.{statement}
 use Rattle.forms.proofs.list_step.Tie as tie
-use Rattle.forms.proofs.list_step.Reads as reads
-use Rattle.forms.proofs.list_step.Lts as lts
-use Rattle.forms.proofs.at_step.Reads as at-step-reads
-use Rattle.forms.proofs.is_bare.Reads as is-bare-reads
-use Rattle.forms.proofs.next_item.Reads as next-item-reads
 
 is-bare-requires : tie.Need-is-bare-requires
 is-bare-requires c κs = search needs

@@ -1,21 +1,14 @@
 -- `forms::name_len` meets its contract. Assumes nothing.
-use Prim.Native.Nat.{_<_}
-use mathlib.Core.Path.{_≡_, sym, ap, _∙_}
+use mathlib.Core.Path.{sym, ap, _∙_}
 use native.Mathlib.Omega.{arith}
 use borrow.Author.Tests.{not-true, not-false}
 use borrow.Author.Needs.{needs}
-use lib.Seq.{length-take-le}
-use lib.ListN.{length, take, length-take}
+use lib.ListN.{length-take}
 use Rattle.text.specs.Lists.{runLen}
 use Rattle.text.specs.Bytes.{isWord}
-use Rattle.text.proofs.is_letter.Reads as is-letter-reads
-use Rattle.text.proofs.words_len.Reads as words-len-reads
 use Rattle.forms.proofs.PropertyLaws.{name-empty, name-first, name-long, name-run, taken-part}
 use Rattle.forms.proofs.name_len.Statement.{statement}
 use Rattle.forms.proofs.name_len.Tie as tie
-use Rattle.forms.proofs.name_len.Reads as reads
-use Rattle.forms.proofs.name_len.Lts as lts
-use Rattle.forms.proofs.end_of.Reads as end-of-reads
 
 end-of-requires : tie.Need-end-of-requires
 end-of-requires c κs = search needs

@@ -1,13 +1,9 @@
 -- `forms::number_of` meets its contract. Assumes nothing.
-use mathlib.Core.Path.{_≡_, sym, ap, _∙_}
+use mathlib.Core.Path.{sym, _∙_}
 use borrow.Author.Needs.{needs}
-use Rattle.text.proofs.decimal.Reads as decimal-reads
 use Rattle.forms.proofs.SegmentLaws.{number-zero, number-plain}
 use Rattle.forms.proofs.number_of.Statement.{statement}
 use Rattle.forms.proofs.number_of.Tie as tie
-use Rattle.forms.proofs.number_of.Reads as reads
-use Rattle.forms.proofs.number_of.Lts as lts
-use Rattle.forms.proofs.leads_zero.Reads as leads-zero-reads
 
 leads-zero-requires : tie.Need-leads-zero-requires
 leads-zero-requires c κs = search needs

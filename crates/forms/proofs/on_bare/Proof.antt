@@ -1,11 +1,8 @@
 -- `forms::on_bare` meets its contract. Assumes nothing.
-use mathlib.Core.Path.{_≡_, sym, ap, _∙_}
+use mathlib.Core.Path.{sym, _∙_}
 use borrow.Author.Needs.{needs}
 use Rattle.forms.proofs.on_bare.Statement.{statement}
 use Rattle.forms.proofs.on_bare.Tie as tie
-use Rattle.forms.proofs.on_bare.Reads as reads
-use Rattle.forms.proofs.on_bare.Lts as lts
-use Rattle.forms.proofs.is_plain.Reads as is-plain-reads
 
 is-plain-requires : tie.Need-is-plain-requires
 is-plain-requires c κs = search needs

@@ -3,8 +3,6 @@ use borrow.Author.Needs.{needs}
 use Rattle.forms.specs.Forms.{isPlainSign}
 use Rattle.forms.proofs.on_escaped.Statement.{statement}
 use Rattle.forms.proofs.on_escaped.Tie as tie
-use Rattle.forms.proofs.on_escaped.Reads as reads
-use Rattle.forms.proofs.on_escaped.Lts as lts
 
 enum-told : tie.Need-enum-told
 enum-told c = search needs

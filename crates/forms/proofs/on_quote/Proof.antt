@@ -3,8 +3,6 @@ use borrow.Author.Needs.{needs}
 use Rattle.forms.specs.Forms.{isPlainSign}
 use Rattle.forms.proofs.on_quote.Statement.{statement}
 use Rattle.forms.proofs.on_quote.Tie as tie
-use Rattle.forms.proofs.on_quote.Reads as reads
-use Rattle.forms.proofs.on_quote.Lts as lts
 
 enum-told : tie.Need-enum-told
 enum-told c = search needs

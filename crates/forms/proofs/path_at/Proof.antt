@@ -1,6 +1,6 @@
 -- `forms::path_at` meets its contract. Assumes nothing.
-use Prim.Native.Nat.{_≤_, _+_, _-_}
-use mathlib.Core.Path.{_≡_, refl, sym, ap, _∙_}
+use Prim.Native.Nat.{_≤_, _-_}
+use mathlib.Core.Path.{_≡_, refl, sym, _∙_}
 use native.Mathlib.Omega.{arith}
 use borrow.Author.Needs.{needs}
 use borrow.Author.Tests.{not-true, not-false}
@@ -9,12 +9,6 @@ use Rattle.forms.specs.Steps.{pathFrom}
 use Rattle.forms.proofs.SegmentLaws.{segment-within, path-more, path-stops, path-ends, path-bad, path-full, path-from}
 use Rattle.forms.proofs.path_at.Statement.{statement}
 use Rattle.forms.proofs.path_at.Tie as tie
-use Rattle.forms.proofs.path_at.Reads as reads
-use Rattle.forms.proofs.path_at.Lts as lts
-use Rattle.forms.proofs.is_inner.Reads as is-inner-reads
-use Rattle.forms.proofs.is_last.Reads as is-last-reads
-use Rattle.forms.proofs.piece_of.Reads as piece-of-reads
-use Rattle.forms.proofs.segment_len.Reads as segment-len-reads
 
 abbrev Inv-loop : tie.InvT-loop
 Inv-loop t from rooted at₀ k₀ at k = (at ≤ length t) × (pathFrom rooted k (drop at t) ≡ pathFrom rooted 0 (drop from t))

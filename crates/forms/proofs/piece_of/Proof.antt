@@ -1,20 +1,14 @@
 -- `forms::piece_of` meets its contract. Assumes nothing.
 use Prim.Native.Nat.{_≤_}
-use mathlib.Core.Path.{_≡_, sym, ap, _∙_}
+use mathlib.Core.Path.{sym, _∙_}
 use native.Mathlib.Omega.{arith}
 use borrow.Author.Needs.{needs}
 use lib.ListN.{length}
 use Rattle.text.proofs.Scans.{run-within}
 use Rattle.text.specs.Bytes.{bytes, isLetter}
-use Rattle.text.proofs.letters_len.Reads as letters-len-reads
-use Rattle.text.proofs.same.Reads as same-reads
 use Rattle.forms.proofs.SegmentLaws.{piece-here, piece-above, piece-tag, piece-none}
 use Rattle.forms.proofs.piece_of.Statement.{statement}
 use Rattle.forms.proofs.piece_of.Tie as tie
-use Rattle.forms.proofs.piece_of.Reads as reads
-use Rattle.forms.proofs.piece_of.Lts as lts
-use Rattle.forms.proofs.after_tag.Reads as after-tag-reads
-use Rattle.forms.proofs.is_tag_len.Reads as is-tag-len-reads
 
 slice-aggregate-same : tie.Need-slice-aggregate-same
 slice-aggregate-same c = search needs

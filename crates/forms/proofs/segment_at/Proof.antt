@@ -1,16 +1,10 @@
 -- `forms::segment_at` meets its contract. Assumes nothing.
-use Prim.Native.Nat.{_≤_, _+_}
-use mathlib.Core.Path.{_≡_, sym, ap, _∙_}
+use mathlib.Core.Path.{sym, _∙_}
 use native.Mathlib.Omega.{arith}
 use borrow.Author.Needs.{needs}
-use lib.ListN.{length}
 use Rattle.forms.proofs.SegmentLaws.{piece-past, part-piece, segment-piece, segment-within}
 use Rattle.forms.proofs.segment_at.Statement.{statement}
 use Rattle.forms.proofs.segment_at.Tie as tie
-use Rattle.forms.proofs.segment_at.Reads as reads
-use Rattle.forms.proofs.segment_at.Lts as lts
-use Rattle.forms.proofs.piece_of.Reads as piece-of-reads
-use Rattle.forms.proofs.segment_len.Reads as segment-len-reads
 
 returns : tie.Need-returns
 returns c = sym (piece-past (c .before .before .args .t .now) (c .before .before .args .at) (c .if1 .taken))

@@ -1,6 +1,6 @@
 -- `forms::segment_len` meets its contract. Assumes nothing.
 use Prim.Native.Nat.{_+_, _-_, _≤_}
-use mathlib.Core.Path.{_≡_, refl, sym, ap, _∙_}
+use mathlib.Core.Path.{_≡_, sym, _∙_}
 use native.Mathlib.Omega.{arith}
 use borrow.Author.Needs.{needs}
 use lib.ListN.{length, drop}
@@ -10,9 +10,6 @@ use Rattle.forms.specs.Targets.{isSeparator}
 use Rattle.forms.proofs.Lists.{up-on, up-ends, up-past}
 use Rattle.forms.proofs.segment_len.Statement.{statement}
 use Rattle.forms.proofs.segment_len.Tie as tie
-use Rattle.forms.proofs.segment_len.Reads as reads
-use Rattle.forms.proofs.segment_len.Lts as lts
-use Rattle.forms.proofs.is_separator.Reads as is-separator-reads
 
 abbrev Inv-loop : tie.InvT-loop
 Inv-loop t at i₀ i = (at ≤ i) × (i + length (upTo isSeparator (drop i t)) ≡ at + length (upTo isSeparator (drop at t)))

@@ -2,8 +2,6 @@
 use borrow.Author.Needs.{needs}
 use Rattle.forms.proofs.shape_if.Statement.{statement}
 use Rattle.forms.proofs.shape_if.Tie as tie
-use Rattle.forms.proofs.shape_if.Reads as reads
-use Rattle.forms.proofs.shape_if.Lts as lts
 
 returns : tie.Need-returns
 returns c = rw (c .if1 .taken)

@@ -1,14 +1,10 @@
 -- `forms::target_of` meets its contract. Assumes nothing.
-use mathlib.Core.Path.{_≡_, sym, ap, _∙_}
+use mathlib.Core.Path.{sym, _∙_}
 use borrow.Author.Tests.{not-true, not-false}
 use borrow.Author.Needs.{needs}
 use Rattle.forms.proofs.SegmentLaws.{target-session, target-empty, target-path, target-root, target-rooted}
 use Rattle.forms.proofs.target_of.Statement.{statement}
 use Rattle.forms.proofs.target_of.Tie as tie
-use Rattle.forms.proofs.target_of.Reads as reads
-use Rattle.forms.proofs.target_of.Lts as lts
-use Rattle.forms.proofs.is_separator.Reads as is-separator-reads
-use Rattle.forms.proofs.path_at.Reads as path-at-reads
 
 is-session-requires : tie.Need-is-session-requires
 is-session-requires c κs = search needs

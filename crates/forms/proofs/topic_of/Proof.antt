@@ -1,12 +1,9 @@
 -- `forms::topic_of` meets its contract. Assumes nothing.
-use mathlib.Core.Path.{_≡_, sym, ap, _∙_}
+use mathlib.Core.Path.{sym, _∙_}
 use borrow.Author.Needs.{needs}
 use Rattle.forms.proofs.PropertyLaws.{topic-name, topic-none}
 use Rattle.forms.proofs.topic_of.Statement.{statement}
 use Rattle.forms.proofs.topic_of.Tie as tie
-use Rattle.forms.proofs.topic_of.Reads as reads
-use Rattle.forms.proofs.topic_of.Lts as lts
-use Rattle.forms.proofs.is_name.Reads as is-name-reads
 
 is-name-requires : tie.Need-is-name-requires
 is-name-requires c κs = search needs

@@ -7,10 +7,6 @@ use lib.ListN.{length}
 use Rattle.joiner.proofs.Laws.{answer-within}
 use Rattle.joincases.proofs.feed.Statement.{statement}
 use Rattle.joincases.proofs.feed.Tie as tie
-use Rattle.joincases.proofs.feed.Reads as reads
-use Rattle.joincases.proofs.feed.Lts as lts
-use Rattle.joincases.proofs.show.Reads as show-reads
-use Rattle.joiner.proofs.Joiner.join.Reads as join-reads
 
 abbrev Inv-loop : tie.InvT-loop
 Inv-loop s₀ buffer₀ part at₀ s buffer at = (at ≤ length part) × (length buffer ≡ length buffer₀)

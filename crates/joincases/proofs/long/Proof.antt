@@ -5,9 +5,6 @@ use lib.Seq.{length-take-le}
 use borrow.Author.Needs.{needs}
 use Rattle.joincases.proofs.long.Statement.{statement}
 use Rattle.joincases.proofs.long.Tie as tie
-use Rattle.joincases.proofs.long.Reads as reads
-use Rattle.joincases.proofs.long.Lts as lts
-use Rattle.joincases.proofs.capture.Reads as capture-reads
 
 array-share-prefix-one : tie.Need-array-share-prefix-one
 array-share-prefix-one c = search needs

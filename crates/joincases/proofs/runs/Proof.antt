@@ -1,16 +1,9 @@
 -- `joincases::runs` is safe and ends: each run has a byte or more and stays inside the bytes. Assumes nothing.
 use borrow.Author.Needs.{needs}
-use Prim.Native.Nat.{_+_, _≤_, _-_}
-use native.Mathlib.Omega.{arith}
-use mathlib.Core.Path.{_≡_}
+use Prim.Native.Nat.{_≤_, _-_}
 use lib.ListN.{length}
 use Rattle.joincases.proofs.runs.Statement.{statement}
 use Rattle.joincases.proofs.runs.Tie as tie
-use Rattle.joincases.proofs.runs.Reads as reads
-use Rattle.joincases.proofs.runs.Lts as lts
-use Rattle.io.proofs.write_all.Reads as write-all-reads
-use Rattle.joincases.proofs.alike.Reads as alike-reads
-use Rattle.joincases.proofs.same.Reads as same-reads
 
 abbrev Inv-loop : tie.InvT-loop
 Inv-loop bytes at₀ t4 at = at ≤ length bytes

@@ -4,9 +4,6 @@ use borrow.Author.Needs.{needs}
 use Rattle.joiner.proofs.Blocks.{none-marked}
 use Rattle.joiner.proofs.all_plain.Statement.{statement}
 use Rattle.joiner.proofs.all_plain.Tie as tie
-use Rattle.joiner.proofs.all_plain.Reads as reads
-use Rattle.joiner.proofs.all_plain.Lts as lts
-use Rattle.joiner.proofs.has.Reads as has-reads
 
 has-requires : tie.Need-has-requires
 has-requires c κs = search needs

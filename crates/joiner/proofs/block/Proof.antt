@@ -9,8 +9,6 @@ use lib.Seq.{take-all}
 use Rattle.joiner.proofs.Blocks.{block-more}
 use Rattle.joiner.proofs.block.Statement.{statement}
 use Rattle.joiner.proofs.block.Tie as tie
-use Rattle.joiner.proofs.block.Reads as reads
-use Rattle.joiner.proofs.block.Lts as lts
 
 abbrev Inv-loop : tie.InvT-loop
 Inv-loop part at b₀ k₀ b k = (k ≤ 16) × (length b ≡ 16) × (take k b ≡ take k (drop at part))

@@ -4,7 +4,7 @@ use borrow.Author.Needs.{needs}
 use borrow.Author.Tests.{not-false}
 use Prim.Native.Nat.{_+_, _≤_, _-_}
 use native.Mathlib.Omega.{arith}
-use mathlib.Core.Path.{_≡_, refl, sym, _∙_}
+use mathlib.Core.Path.{_≡_, sym, _∙_}
 use mathlib.Core.Bool.{false}
 use lib.ListN.{length, drop, length-set}
 use Rattle.joiner.specs.Step.{st}
@@ -12,9 +12,6 @@ use Rattle.joiner.specs.Join.{run}
 use Rattle.joiner.proofs.Laws.{turn-plain}
 use Rattle.joiner.proofs.copy_bytes.Statement.{statement}
 use Rattle.joiner.proofs.copy_bytes.Tie as tie
-use Rattle.joiner.proofs.copy_bytes.Reads as reads
-use Rattle.joiner.proofs.copy_bytes.Lts as lts
-use Rattle.joiner.proofs.ordinary.Reads as ordinary-reads
 
 abbrev Inv-loop : tie.InvT-loop
 Inv-loop held₀ buffer₀ part at₀ end held buffer at =

@@ -9,8 +9,6 @@ use lib.ListN.{getD}
 use Rattle.joiner.proofs.Blocks.{has-more}
 use Rattle.joiner.proofs.has.Statement.{statement}
 use Rattle.joiner.proofs.has.Tie as tie
-use Rattle.joiner.proofs.has.Reads as reads
-use Rattle.joiner.proofs.has.Lts as lts
 
 abbrev Inv-loop : tie.InvT-loop
 Inv-loop x b found₀ k₀ found k = (k ≤ 16) × (found ≡ false → (j : ℕ) → j < k → getD b j 0 ≡ x → ⊥)

@@ -5,9 +5,6 @@ use native.Mathlib.Omega.{arith}
 use mathlib.Core.Path.{refl}
 use Rattle.joiner.proofs.keep.Statement.{statement}
 use Rattle.joiner.proofs.keep.Tie as tie
-use Rattle.joiner.proofs.keep.Reads as reads
-use Rattle.joiner.proofs.keep.Lts as lts
-use Rattle.joiner.proofs.put.Reads as put-reads
 
 returns : tie.Need-returns
 returns c = search needs

@@ -6,8 +6,6 @@ use mathlib.Core.Path.{sym, _∙_}
 use mathlib.Core.Bool.{true≢false}
 use Rattle.joiner.proofs.limit.Statement.{statement}
 use Rattle.joiner.proofs.limit.Tie as tie
-use Rattle.joiner.proofs.limit.Reads as reads
-use Rattle.joiner.proofs.limit.Lts as lts
 
 returns : tie.Need-returns
 returns c = (omega arith, (omega arith, λ e. absurd (true≢false (sym (c .if1 .taken) ∙ e))))

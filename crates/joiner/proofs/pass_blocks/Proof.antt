@@ -14,11 +14,6 @@ use Rattle.joiner.specs.Join.{run}
 use Rattle.joiner.proofs.Blocks.{turn-block, kept-small, kept-large}
 use Rattle.joiner.proofs.pass_blocks.Statement.{statement}
 use Rattle.joiner.proofs.pass_blocks.Tie as tie
-use Rattle.joiner.proofs.pass_blocks.Reads as reads
-use Rattle.joiner.proofs.pass_blocks.Lts as lts
-use Rattle.joiner.proofs.all_plain.Reads as all-plain-reads
-use Rattle.joiner.proofs.block.Reads as block-reads
-use Rattle.joiner.proofs.keep.Reads as keep-reads
 
 abbrev Inv-loop : tie.InvT-loop
 Inv-loop over held₀ buffer₀ part at₀ end held buffer at =

@@ -7,11 +7,6 @@ use Rattle.joiner.proofs.Blocks.{then-bytes}
 use borrow.Author.Needs.{needs}
 use Rattle.joiner.proofs.pass_plain.Statement.{statement}
 use Rattle.joiner.proofs.pass_plain.Tie as tie
-use Rattle.joiner.proofs.pass_plain.Reads as reads
-use Rattle.joiner.proofs.pass_plain.Lts as lts
-use Rattle.joiner.proofs.pass_blocks.Reads as pass-blocks-reads
-use Rattle.joiner.proofs.copy_bytes.Reads as copy-bytes-reads
-use Rattle.joiner.proofs.limit.Reads as limit-reads
 
 limit-requires : tie.Need-limit-requires
 limit-requires c κs = search needs

@@ -10,8 +10,6 @@ use lib.Seq.{sets}
 use Rattle.joiner.proofs.Blocks.{put-more}
 use Rattle.joiner.proofs.put.Statement.{statement}
 use Rattle.joiner.proofs.put.Tie as tie
-use Rattle.joiner.proofs.put.Reads as reads
-use Rattle.joiner.proofs.put.Lts as lts
 
 abbrev Inv-loop : tie.InvT-loop
 Inv-loop buffer₀ at b k₀ buffer k = (k ≤ 16) × (length b ≡ 16) × (length buffer ≡ length buffer₀) × (sets buffer₀ at b ≡ sets buffer (at + k) (drop k b))

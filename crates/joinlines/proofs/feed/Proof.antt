@@ -3,15 +3,11 @@
 use borrow.Author.Needs.{needs}
 use Prim.Native.Nat.{_+_, _≤_, _-_}
 use native.Mathlib.Omega.{arith}
-use mathlib.Core.Path.{_≡_, refl, ap, _∙_}
-use lib.ListN.{length, drop, length-drop}
+use mathlib.Core.Path.{_≡_}
+use lib.ListN.{length}
 use Rattle.joiner.proofs.Laws.{answer-within}
 use Rattle.joinlines.proofs.feed.Statement.{statement}
 use Rattle.joinlines.proofs.feed.Tie as tie
-use Rattle.joinlines.proofs.feed.Reads as reads
-use Rattle.joinlines.proofs.feed.Lts as lts
-use Rattle.joiner.proofs.Joiner.join.Reads as join-reads
-use Rattle.joinlines.proofs.show.Reads as show-reads
 
 abbrev Inv-loop : tie.InvT-loop
 Inv-loop state₀ buffer₀ part at₀ state buffer at = (at ≤ length part) × (length buffer ≡ length buffer₀)

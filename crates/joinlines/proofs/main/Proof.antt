@@ -5,12 +5,6 @@ use mathlib.Core.Path.{_≡_}
 use lib.ListN.{length}
 use Rattle.joinlines.proofs.main.Statement.{statement}
 use Rattle.joinlines.proofs.main.Tie as tie
-use Rattle.joinlines.proofs.main.Reads as reads
-use Rattle.joinlines.proofs.main.Lts as lts
-use Rattle.io.proofs.read_full.Reads as read-full-reads
-use Rattle.joiner.proofs.Joiner.new.Reads as new-reads
-use Rattle.joinlines.proofs.feed.Reads as feed-reads
-use Rattle.joinlines.proofs.finish.Reads as finish-reads
 
 abbrev Inv-loop : tie.InvT-loop
 Inv-loop buffer₀ part₀ state₀ turns₀ buffer part state turns = (length buffer ≡ 1024) × (length part ≡ 4096)

@@ -4,9 +4,6 @@ use lib.Seq.{length-take-le}
 use borrow.Author.Needs.{needs}
 use Rattle.joinlines.proofs.show.Statement.{statement}
 use Rattle.joinlines.proofs.show.Tie as tie
-use Rattle.joinlines.proofs.show.Reads as reads
-use Rattle.joinlines.proofs.show.Lts as lts
-use Rattle.io.proofs.write_all.Reads as write-all-reads
 
 enum-told : tie.Need-enum-told
 enum-told c = search needs

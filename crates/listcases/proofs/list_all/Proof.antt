@@ -1,19 +1,9 @@
 -- `listcases::list_all` meets its contract.
-use mathlib.Core.Path.{_≡_, refl, sym, ap, _∙_}
-use Prim.Native.Nat.{ℕ, suc, _+_, _-_, _≤_, _<_}
-use native.Mathlib.Omega.{arith}
-use native.Mathlib.Nat.{add-zero}
-use mathlib.Core.List.{List, []}
-use lib.ListN.{length, getD, take, drop}
-use lib.Seq.{sets}
+use mathlib.Core.Path.{_≡_, refl}
+use lib.ListN.{length}
 use borrow.Author.Needs.{needs}
 use Rattle.listcases.proofs.list_all.Statement.{statement}
 use Rattle.listcases.proofs.list_all.Tie as tie
-use Rattle.listcases.proofs.list_all.Reads as reads
-use Rattle.listcases.proofs.list_all.Lts as lts
-use Rattle.io.proofs.read_full.Reads as read-full-reads
-use Rattle.joiner.proofs.Joiner.new.Reads as new-reads
-use Rattle.listcases.proofs.feed.Reads as feed-reads
 
 abbrev Inv-loop : tie.InvT-loop
 Inv-loop line₀ room₀ text₀ state₀ part₀ turns₀ line room text state part turns = (length line ≡ length line₀) × (length room ≡ length room₀) × (length text ≡ length text₀) × (length part ≡ 7)

@@ -1,19 +1,10 @@
 -- `listcases::show` meets its contract.
-use mathlib.Core.Path.{_≡_, refl, sym, ap, _∙_}
-use Prim.Native.Nat.{ℕ, suc, _+_, _-_, _≤_, _<_}
+use mathlib.Core.Path.{sym}
 use native.Mathlib.Omega.{arith}
-use native.Mathlib.Nat.{add-zero}
-use mathlib.Core.List.{List, []}
-use lib.ListN.{length, getD, take, drop}
-use lib.Seq.{sets}
 use borrow.Author.Needs.{needs}
 use lib.Seq.{length-take-le}
 use Rattle.listcases.proofs.show.Statement.{statement}
 use Rattle.listcases.proofs.show.Tie as tie
-use Rattle.listcases.proofs.show.Reads as reads
-use Rattle.listcases.proofs.show.Lts as lts
-use Rattle.io.proofs.write_all.Reads as write-all-reads
-use Rattle.listcases.proofs.print.Reads as print-reads
 
 enum-told : tie.Need-enum-told
 enum-told c = search needs

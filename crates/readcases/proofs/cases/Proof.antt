@@ -4,11 +4,6 @@ use Prim.Native.Nat.{_≤_, _-_}
 use lib.ListN.{length}
 use Rattle.readcases.proofs.cases.Statement.{statement}
 use Rattle.readcases.proofs.cases.Tie as tie
-use Rattle.readcases.proofs.cases.Reads as reads
-use Rattle.readcases.proofs.cases.Lts as lts
-use Rattle.io.proofs.write_all.Reads as write-all-reads
-use Rattle.readcases.proofs.show.Reads as show-reads
-use Rattle.text.proofs.pair.Reads as pair-reads
 
 abbrev Inv-loop : tie.InvT-loop
 Inv-loop input at₀ t7 t8 at = at ≤ length input

@@ -5,10 +5,6 @@ use lib.Seq.{length-take-le}
 use borrow.Author.Needs.{needs}
 use Rattle.readcases.proofs.cut_into.Statement.{statement}
 use Rattle.readcases.proofs.cut_into.Tie as tie
-use Rattle.readcases.proofs.cut_into.Reads as reads
-use Rattle.readcases.proofs.cut_into.Lts as lts
-use Rattle.readcases.proofs.answered.Reads as answered-reads
-use Rattle.reading.proofs.put_cut.Reads as put-cut-reads
 
 slice-relend-prefix-put-cut : tie.Need-slice-relend-prefix-put-cut
 slice-relend-prefix-put-cut c = search needs

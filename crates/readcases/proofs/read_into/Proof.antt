@@ -5,10 +5,6 @@ use lib.Seq.{length-take-le}
 use borrow.Author.Needs.{needs}
 use Rattle.readcases.proofs.read_into.Statement.{statement}
 use Rattle.readcases.proofs.read_into.Tie as tie
-use Rattle.readcases.proofs.read_into.Reads as reads
-use Rattle.readcases.proofs.read_into.Lts as lts
-use Rattle.readcases.proofs.answered.Reads as answered-reads
-use Rattle.reading.proofs.read.Reads as read-reads
 
 slice-relend-prefix-read : tie.Need-slice-relend-prefix-read
 slice-relend-prefix-read c = search needs

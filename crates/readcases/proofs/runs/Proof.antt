@@ -4,10 +4,6 @@ use Prim.Native.Nat.{_≤_, _-_}
 use lib.ListN.{length}
 use Rattle.readcases.proofs.runs.Statement.{statement}
 use Rattle.readcases.proofs.runs.Tie as tie
-use Rattle.readcases.proofs.runs.Reads as reads
-use Rattle.readcases.proofs.runs.Lts as lts
-use Rattle.readcases.proofs.alike.Reads as alike-reads
-use Rattle.readcases.proofs.same.Reads as same-reads
 
 abbrev Inv-loop : tie.InvT-loop
 Inv-loop bytes at₀ at = at ≤ length bytes

@@ -5,10 +5,6 @@ use native.Mathlib.Omega.{arith}
 use borrow.Author.Needs.{needs}
 use Rattle.reading.proofs.after.Statement.{statement}
 use Rattle.reading.proofs.after.Tie as tie
-use Rattle.reading.proofs.after.Reads as reads
-use Rattle.reading.proofs.after.Lts as lts
-use Rattle.reading.proofs.marked.Reads as marked-reads
-use Rattle.reading.proofs.phase_after.Reads as phase-after-reads
 
 enum-known-i : tie.Need-enum-known-i
 enum-known-i c = search needs

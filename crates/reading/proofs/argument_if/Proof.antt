@@ -2,8 +2,6 @@
 use borrow.Author.Needs.{needs}
 use Rattle.reading.proofs.argument_if.Statement.{statement}
 use Rattle.reading.proofs.argument_if.Tie as tie
-use Rattle.reading.proofs.argument_if.Reads as reads
-use Rattle.reading.proofs.argument_if.Lts as lts
 
 returns : tie.Need-returns
 returns c = rw (c .if1 .taken)

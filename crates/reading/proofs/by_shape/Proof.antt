@@ -2,8 +2,6 @@
 use borrow.Author.Needs.{needs}
 use Rattle.reading.proofs.by_shape.Statement.{statement}
 use Rattle.reading.proofs.by_shape.Tie as tie
-use Rattle.reading.proofs.by_shape.Reads as reads
-use Rattle.reading.proofs.by_shape.Lts as lts
 
 enum-known-k : tie.Need-enum-known-k
 enum-known-k c = search needs

@@ -1,5 +1,5 @@
 -- `reading::decide_after` meets its contract. Assumes nothing.
-use mathlib.Core.Path.{_≡_, refl, sym, ap, _∙_}
+use mathlib.Core.Path.{sym, ap, _∙_}
 use lib.Seq.{length-take-le}
 use native.Mathlib.Omega.{arith}
 use Rattle.reading.specs.Cursor.{decidedOf}
@@ -8,11 +8,6 @@ use Rattle.reading.proofs.Decisions.{after-topic, after-property, after
 use borrow.Author.Needs.{needs}
 use Rattle.reading.proofs.decide_after.Statement.{statement}
 use Rattle.reading.proofs.decide_after.Tie as tie
-use Rattle.reading.proofs.decide_after.Reads as reads
-use Rattle.reading.proofs.decide_after.Lts as lts
-use Rattle.reading.proofs.decide_property.Reads as decide-property-reads
-use Rattle.reading.proofs.decide_target.Reads as decide-target-reads
-use Rattle.terms.proofs.has_bare.Reads as has-bare-reads
 
 decide-property-requires : tie.Need-decide-property-requires
 decide-property-requires c κs = search needs

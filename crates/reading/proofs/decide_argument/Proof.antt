@@ -1,5 +1,5 @@
 -- `reading::decide_argument` meets its contract. Assumes nothing.
-use mathlib.Core.Path.{_≡_, refl, sym, ap, _∙_}
+use mathlib.Core.Path.{sym, ap, _∙_}
 use lib.Seq.{length-take-le}
 use native.Mathlib.Omega.{arith}
 use mathlib.Core.Bool.{Bool}
@@ -10,15 +10,6 @@ use Rattle.reading.proofs.Decisions.{argument-dash, argument-decided}
 use borrow.Author.Needs.{needs}
 use Rattle.reading.proofs.decide_argument.Statement.{statement}
 use Rattle.reading.proofs.decide_argument.Tie as tie
-use Rattle.reading.proofs.decide_argument.Reads as reads
-use Rattle.reading.proofs.decide_argument.Lts as lts
-use Rattle.forms.proofs.are_entries.Reads as are-entries-reads
-use Rattle.forms.proofs.is_keep.Reads as is-keep-reads
-use Rattle.forms.proofs.is_level.Reads as is-level-reads
-use Rattle.forms.proofs.is_place.Reads as is-place-reads
-use Rattle.reading.proofs.argument_if.Reads as argument-if-reads
-use Rattle.terms.proofs.starts_bare.Reads as starts-bare-reads
-use Rattle.words.proofs.kind_of.Reads as kind-of-reads
 
 slice-aggregate-t : tie.Need-slice-aggregate-t
 slice-aggregate-t c = let a = c .before .before .args in sym (length-take-le (a .n) (a .s .now) (omega arith))

@@ -1,5 +1,5 @@
 -- `reading::decide_in` meets its contract. Assumes nothing.
-use mathlib.Core.Path.{_≡_, refl, sym, ap, _∙_}
+use mathlib.Core.Path.{sym, ap, _∙_}
 use lib.Seq.{length-take-le}
 use native.Mathlib.Omega.{arith}
 use Rattle.reading.specs.Cursor.{decidedOf}
@@ -8,14 +8,6 @@ use Rattle.reading.proofs.Decisions.{in-option, in-after, in-dash, in-p
 use borrow.Author.Needs.{needs}
 use Rattle.reading.proofs.decide_in.Statement.{statement}
 use Rattle.reading.proofs.decide_in.Tie as tie
-use Rattle.reading.proofs.decide_in.Reads as reads
-use Rattle.reading.proofs.decide_in.Lts as lts
-use Rattle.reading.proofs.decide_after.Reads as decide-after-reads
-use Rattle.reading.proofs.decide_argument.Reads as decide-argument-reads
-use Rattle.reading.proofs.decide_option.Reads as decide-option-reads
-use Rattle.reading.proofs.decide_property.Reads as decide-property-reads
-use Rattle.reading.proofs.decide_verb.Reads as decide-verb-reads
-use Rattle.terms.proofs.starts_bare.Reads as starts-bare-reads
 
 slice-aggregate-t : tie.Need-slice-aggregate-t
 slice-aggregate-t c = let a = c .before .before .args in sym (length-take-le (a .n) (a .s .now) (omega arith))

@@ -1,13 +1,9 @@
 -- `reading::decide_option` meets its contract. Assumes nothing.
-use mathlib.Core.Path.{_≡_, refl, sym, ap, _∙_}
+use mathlib.Core.Path.{sym, _∙_}
 use Rattle.reading.proofs.Decisions.{option-cite, option-empty}
 use borrow.Author.Needs.{needs}
 use Rattle.reading.proofs.decide_option.Statement.{statement}
 use Rattle.reading.proofs.decide_option.Tie as tie
-use Rattle.reading.proofs.decide_option.Reads as reads
-use Rattle.reading.proofs.decide_option.Lts as lts
-use Rattle.reading.proofs.was_seen.Reads as was-seen-reads
-use Rattle.words.proofs.option.Reads as option-reads
 
 returns : tie.Need-returns
 returns c = option-empty (c .before .before .args .seen) (c .before .before .args .t .now) (c .if1 .taken)

@@ -1,5 +1,5 @@
 -- `reading::decide_property` meets its contract. Assumes nothing.
-use mathlib.Core.Path.{_≡_, refl, sym, ap, _∙_}
+use mathlib.Core.Path.{sym, ap, _∙_}
 use lib.Seq.{length-take-le}
 use native.Mathlib.Omega.{arith}
 use Rattle.reading.specs.Shown.{byShape}
@@ -14,11 +14,6 @@ use Rattle.reading.proofs.Decisions.{property-many, topic-decided, prop
 use borrow.Author.Needs.{needs}
 use Rattle.reading.proofs.decide_property.Statement.{statement}
 use Rattle.reading.proofs.decide_property.Tie as tie
-use Rattle.reading.proofs.decide_property.Reads as reads
-use Rattle.reading.proofs.decide_property.Lts as lts
-use Rattle.forms.proofs.property_of.Reads as property-of-reads
-use Rattle.forms.proofs.topic_of.Reads as topic-of-reads
-use Rattle.reading.proofs.by_shape.Reads as by-shape-reads
 
 returns : tie.Need-returns
 returns c =

@@ -1,12 +1,9 @@
 -- `reading::decide_target` meets its contract. Assumes nothing.
-use mathlib.Core.Path.{_≡_, refl, sym, ap, _∙_}
+use mathlib.Core.Path.{sym, ap, _∙_}
 use Rattle.reading.proofs.Decisions.{byWhere, target-decided}
 use borrow.Author.Needs.{needs}
 use Rattle.reading.proofs.decide_target.Statement.{statement}
 use Rattle.reading.proofs.decide_target.Tie as tie
-use Rattle.reading.proofs.decide_target.Reads as reads
-use Rattle.reading.proofs.decide_target.Lts as lts
-use Rattle.forms.proofs.target_of.Reads as target-of-reads
 
 target-of-requires : tie.Need-target-of-requires
 target-of-requires c κs = search needs

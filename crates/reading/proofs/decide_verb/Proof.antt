@@ -1,12 +1,9 @@
 -- `reading::decide_verb` meets its contract. Assumes nothing.
-use mathlib.Core.Path.{_≡_, refl, sym, ap, _∙_}
+use mathlib.Core.Path.{sym, ap, _∙_}
 use Rattle.reading.proofs.Decisions.{byVerb, verb-decided}
 use borrow.Author.Needs.{needs}
 use Rattle.reading.proofs.decide_verb.Statement.{statement}
 use Rattle.reading.proofs.decide_verb.Tie as tie
-use Rattle.reading.proofs.decide_verb.Reads as reads
-use Rattle.reading.proofs.decide_verb.Lts as lts
-use Rattle.words.proofs.verb.Reads as verb-reads
 
 verb-requires : tie.Need-verb-requires
 verb-requires c κs = search needs

@@ -1,6 +1,6 @@
 -- `reading::first_target` meets its contract. The loop's invariant: what is left has the line's target. Assumes nothing.
 use borrow.Author.Needs.{needs}
-use Prim.Native.Nat.{ℕ, _+_, _-_, _*_, _≤_}
+use Prim.Native.Nat.{_-_, _≤_}
 use mathlib.Core.Path.{_≡_, refl, sym, ap, _∙_}
 use native.Mathlib.Omega.{arith}
 use lib.ListN.{length}
@@ -12,11 +12,6 @@ use Rattle.reading.specs.Shown.{verdictIn}
 use Rattle.reading.proofs.Folds.{target-part, verdict-part, refused-fine}
 use Rattle.reading.proofs.first_target.Statement.{statement}
 use Rattle.reading.proofs.first_target.Tie as tie
-use Rattle.reading.proofs.first_target.Reads as reads
-use Rattle.reading.proofs.first_target.Lts as lts
-use Rattle.reading.proofs.Cursor.begin.Reads as begin-reads
-use Rattle.reading.proofs.Cursor.next.Reads as next-reads
-use Rattle.reading.proofs.is_target.Reads as is-target-reads
 
 abbrev Inv-loop : tie.InvT-loop
 Inv-loop line c₀ c = (targetIn (left line c) ≡ targetIn (left line start)) × (verdictIn (left line c) ≡ Fine) × (c .at ≤ length line)

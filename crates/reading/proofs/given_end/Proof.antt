@@ -2,8 +2,6 @@
 use borrow.Author.Needs.{needs}
 use Rattle.reading.proofs.given_end.Statement.{statement}
 use Rattle.reading.proofs.given_end.Tie as tie
-use Rattle.reading.proofs.given_end.Reads as reads
-use Rattle.reading.proofs.given_end.Lts as lts
 
 enum-told : tie.Need-enum-told
 enum-told c = search needs

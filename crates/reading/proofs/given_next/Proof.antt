@@ -1,5 +1,5 @@
 -- `reading::given_next` meets its contract. Assumes nothing.
-use mathlib.Core.Path.{_≡_, refl, sym, ap, _∙_}
+use mathlib.Core.Path.{_≡_, sym, ap, _∙_}
 use native.Mathlib.Omega.{arith}
 use Rattle.text.proofs.Slices.{length-from}
 use Rattle.terms.specs.declared.Found.the-variants.{Term}
@@ -10,11 +10,6 @@ use Rattle.reading.proofs.Steps.{none-given, term-given}
 use borrow.Author.Needs.{needs}
 use Rattle.reading.proofs.given_next.Statement.{statement}
 use Rattle.reading.proofs.given_next.Tie as tie
-use Rattle.reading.proofs.given_next.Reads as reads
-use Rattle.reading.proofs.given_next.Lts as lts
-use Rattle.reading.proofs.decide_in.Reads as decide-in-reads
-use Rattle.reading.proofs.given_end.Reads as given-end-reads
-use Rattle.terms.proofs.term_at.Reads as term-at-reads
 
 got : (c : tie.After-start)
     → Term (c .start .given .0 .0) (c .start .given .0 .1 .0) ≡ termAt (c .before .before .before .before .args .line .now) (c .before .before .before .before .args .at)

@@ -1,14 +1,11 @@
 -- `reading::is_blank` meets its contract. Assumes nothing.
-use mathlib.Core.Path.{_≡_, refl, sym, ap, _∙_}
+use mathlib.Core.Path.{sym, ap, _∙_}
 use Rattle.text.specs.Lists.{isNil}
 use Rattle.terms.specs.Terms.{termsOf}
 use Rattle.terms.proofs.TermLaws.{terms-some, terms-none}
 use borrow.Author.Needs.{needs}
 use Rattle.reading.proofs.is_blank.Statement.{statement}
 use Rattle.reading.proofs.is_blank.Tie as tie
-use Rattle.reading.proofs.is_blank.Reads as reads
-use Rattle.reading.proofs.is_blank.Lts as lts
-use Rattle.terms.proofs.term_at.Reads as term-at-reads
 
 term-at-requires : tie.Need-term-at-requires
 term-at-requires c κs = search needs

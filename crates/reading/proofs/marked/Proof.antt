@@ -1,12 +1,10 @@
 -- `reading::marked` meets its contract. Assumes nothing.
-use mathlib.Core.Path.{_≡_, refl, sym, ap, _∙_}
+use mathlib.Core.Path.{sym}
 use native.Mathlib.Omega.{arith}
 use lib.Seq.{set-out}
 use borrow.Author.Needs.{needs}
 use Rattle.reading.proofs.marked.Statement.{statement}
 use Rattle.reading.proofs.marked.Tie as tie
-use Rattle.reading.proofs.marked.Reads as reads
-use Rattle.reading.proofs.marked.Lts as lts
 
 array-write-m : tie.Need-array-write-m
 array-write-m c = search needs

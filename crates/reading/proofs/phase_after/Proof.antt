@@ -1,11 +1,8 @@
 -- `reading::phase_after` meets its contract. Assumes nothing.
-use mathlib.Core.Path.{_≡_, refl, sym, ap, _∙_}
+use mathlib.Core.Path.{sym, _∙_}
 use borrow.Author.Needs.{needs}
 use Rattle.reading.proofs.phase_after.Statement.{statement}
 use Rattle.reading.proofs.phase_after.Tie as tie
-use Rattle.reading.proofs.phase_after.Reads as reads
-use Rattle.reading.proofs.phase_after.Lts as lts
-use Rattle.words.proofs.kind_of.Reads as kind-of-reads
 
 kind-of-requires : tie.Need-kind-of-requires
 kind-of-requires c κs = search needs

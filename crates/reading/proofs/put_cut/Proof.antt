@@ -1,14 +1,11 @@
 -- `reading::put_cut` meets its contract. Assumes nothing.
-use mathlib.Core.Path.{_≡_, refl, sym, ap, _∙_}
+use mathlib.Core.Path.{sym, _∙_}
 use lib.ListN.{length}
 use Rattle.text.proofs.Writes.{fitted-none, fitted-room, filled-none, filled-sets}
-use Rattle.reading.specs.Records.{refusalRecord, cutRecord}
+use Rattle.reading.specs.Records.{cutRecord}
 use borrow.Author.Needs.{needs}
 use Rattle.reading.proofs.put_cut.Statement.{statement}
 use Rattle.reading.proofs.put_cut.Tie as tie
-use Rattle.reading.proofs.put_cut.Reads as reads
-use Rattle.reading.proofs.put_cut.Lts as lts
-use Rattle.text.proofs.put.Reads as put-reads
 
 returns : tie.Need-returns
 returns c = let o = c .before .before .args .out .now in (sym (fitted-none (length o) cutRecord (c .if1 .taken)), sym (filled-none o cutRecord (c .if1 .taken)))

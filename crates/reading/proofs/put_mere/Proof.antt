@@ -1,12 +1,8 @@
 -- `reading::put_mere` meets its contract. Assumes nothing.
-use mathlib.Core.Path.{_≡_, refl, sym, ap, _∙_}
+use mathlib.Core.Path.{refl, sym, _∙_}
 use borrow.Author.Needs.{needs}
 use Rattle.reading.proofs.put_mere.Statement.{statement}
 use Rattle.reading.proofs.put_mere.Tie as tie
-use Rattle.reading.proofs.put_mere.Reads as reads
-use Rattle.reading.proofs.put_mere.Lts as lts
-use Rattle.reading.proofs.put_option.Reads as put-option-reads
-use Rattle.words.proofs.kind_of.Reads as kind-of-reads
 
 kind-of-requires : tie.Need-kind-of-requires
 kind-of-requires c κs = search needs

@@ -2,11 +2,6 @@
 use borrow.Author.Needs.{needs}
 use Rattle.reading.proofs.put_option.Statement.{statement}
 use Rattle.reading.proofs.put_option.Tie as tie
-use Rattle.reading.proofs.put_option.Reads as reads
-use Rattle.reading.proofs.put_option.Lts as lts
-use Rattle.reading.proofs.high.Reads as high-reads
-use Rattle.reading.proofs.low.Reads as low-reads
-use Rattle.text.proofs.copy.Reads as copy-reads
 
 high-requires : tie.Need-high-requires
 high-requires c κs = search needs

@@ -3,10 +3,6 @@ use borrow.Author.Tests.{eq-eqb, ne-eqb}
 use borrow.Author.Needs.{needs}
 use Rattle.reading.proofs.put_property.Statement.{statement}
 use Rattle.reading.proofs.put_property.Tie as tie
-use Rattle.reading.proofs.put_property.Reads as reads
-use Rattle.reading.proofs.put_property.Lts as lts
-use Rattle.reading.proofs.less.Reads as less-reads
-use Rattle.reading.proofs.put_parts.Reads as put-parts-reads
 
 add-e : tie.Need-add-e
 add-e c = search needs

@@ -1,5 +1,5 @@
 -- `reading::put_reading` meets its contract. Assumes nothing.
-use mathlib.Core.Path.{_≡_, refl, sym, ap, _∙_}
+use mathlib.Core.Path.{sym, ap, _∙_}
 use lib.Seq.{sets}
 use Rattle.reading.specs.Reading.{Reading, readingOf}
 use Rattle.reading.specs.Shown.{verdictIn, neededIn, bytesIn}
@@ -7,12 +7,6 @@ use Rattle.reading.proofs.Folds.{refused-fine, fine-left, flawed-left, 
 use borrow.Author.Needs.{needs}
 use Rattle.reading.proofs.put_reading.Statement.{statement}
 use Rattle.reading.proofs.put_reading.Tie as tie
-use Rattle.reading.proofs.put_reading.Reads as reads
-use Rattle.reading.proofs.put_reading.Lts as lts
-use Rattle.reading.proofs.is_blank.Reads as is-blank-reads
-use Rattle.reading.proofs.put_records.Reads as put-records-reads
-use Rattle.terms.proofs.lexical.Reads as lexical-reads
-use Rattle.text.proofs.put.Reads as put-reads
 
 lexical-requires : tie.Need-lexical-requires
 lexical-requires c κs = search needs

@@ -3,13 +3,6 @@ use mathlib.Core.Path.{refl}
 use borrow.Author.Needs.{needs}
 use Rattle.reading.proofs.put_record.Statement.{statement}
 use Rattle.reading.proofs.put_record.Tie as tie
-use Rattle.reading.proofs.put_record.Reads as reads
-use Rattle.reading.proofs.put_record.Lts as lts
-use Rattle.reading.proofs.put_mere.Reads as put-mere-reads
-use Rattle.reading.proofs.put_option.Reads as put-option-reads
-use Rattle.reading.proofs.put_property.Reads as put-property-reads
-use Rattle.reading.proofs.put_target.Reads as put-target-reads
-use Rattle.text.proofs.copy.Reads as copy-reads
 
 enum-known-item : tie.Need-enum-known-item
 enum-known-item c = search needs

@@ -15,12 +15,6 @@ use Rattle.reading.specs.Shown.{verdictIn, recordShown, recordsIn, total
 use Rattle.reading.proofs.Folds.{size-most, total-part, records-part, verdict-part, refused-fine}
 use Rattle.reading.proofs.put_records.Statement.{statement}
 use Rattle.reading.proofs.put_records.Tie as tie
-use Rattle.reading.proofs.put_records.Reads as reads
-use Rattle.reading.proofs.put_records.Lts as lts
-use Rattle.reading.proofs.Cursor.begin.Reads as begin-reads
-use Rattle.reading.proofs.put_record.Reads as put-record-reads
-use Rattle.reading.proofs.after.Reads as after-reads
-use Rattle.reading.proofs.given_next.Reads as given-next-reads
 use Rattle.text.proofs.Writes.{sets-rest}
 
 abbrev Inv-loop : tie.InvT-loop

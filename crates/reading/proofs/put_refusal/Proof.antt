@@ -1,16 +1,11 @@
 -- `reading::put_refusal` meets its contract. Assumes nothing.
-use mathlib.Core.Path.{_≡_, refl, sym, ap, _∙_}
+use mathlib.Core.Path.{sym, _∙_}
 use lib.ListN.{length}
 use Rattle.text.proofs.Writes.{fitted-none, fitted-room, filled-none, filled-sets}
-use Rattle.reading.specs.Records.{refusalRecord, cutRecord}
+use Rattle.reading.specs.Records.{refusalRecord}
 use borrow.Author.Needs.{needs}
 use Rattle.reading.proofs.put_refusal.Statement.{statement}
 use Rattle.reading.proofs.put_refusal.Tie as tie
-use Rattle.reading.proofs.put_refusal.Reads as reads
-use Rattle.reading.proofs.put_refusal.Lts as lts
-use Rattle.reading.proofs.high.Reads as high-reads
-use Rattle.reading.proofs.low.Reads as low-reads
-use Rattle.text.proofs.copy.Reads as copy-reads
 
 returns : tie.Need-returns
 returns c = let a = c .before .before .args in (sym (fitted-none (length (a .out .now)) (refusalRecord (a .number) (a .place)) (c .if1 .taken)), sym (filled-none (a .out .now) (refusalRecord (a .number) (a .place)) (c .if1 .taken)))

@@ -1,11 +1,10 @@
 -- `reading::read` meets its contract. Assumes nothing.
-use Prim.Native.Nat.{ℕ, _-_, _≤_}
-use mathlib.Core.Path.{_≡_, refl, sym, ap, _∙_}
+use mathlib.Core.Path.{sym, ap, _∙_}
 use native.Mathlib.Omega.{arith}
-use lib.ListN.{length, take, replicate}
+use lib.ListN.{length, replicate}
 use lib.Seq.{sets, length-take-le}
 use Rattle.text.proofs.Writes.{held-is}
-use Rattle.reading.specs.Reading.{Reading, readingOf}
+use Rattle.reading.specs.Reading.{readingOf}
 use Rattle.reading.specs.Records.{answerIn, roomIn}
 use Rattle.reading.specs.Shown.{bytesIn}
 use Rattle.reading.proofs.Folds.{read-none, read-all, needed-fine, needed-length, needed-refused}
@@ -13,10 +12,6 @@ use Rattle.reading.proofs.Room.{needed-most}
 use borrow.Author.Needs.{needs}
 use Rattle.reading.proofs.read.Statement.{statement}
 use Rattle.reading.proofs.read.Tie as tie
-use Rattle.reading.proofs.read.Reads as reads
-use Rattle.reading.proofs.read.Lts as lts
-use Rattle.reading.proofs.put_reading.Reads as put-reading-reads
-use Rattle.text.proofs.copy.Reads as copy-reads
 
 slice-aggregate-put-reading : tie.Need-slice-aggregate-put-reading
 slice-aggregate-put-reading c = search needs

@@ -1,5 +1,5 @@
 -- `reading::target` meets its contract. Assumes nothing.
-use mathlib.Core.Path.{_≡_, refl, sym, ap, _∙_}
+use mathlib.Core.Path.{ap, _∙_}
 use native.Mathlib.Omega.{arith}
 use Rattle.text.proofs.Slices.{part-between}
 use Rattle.reading.specs.declared.Span.{Span}
@@ -8,9 +8,6 @@ use Rattle.reading.proofs.PartOrder.{target-within}
 use borrow.Author.Needs.{needs}
 use Rattle.reading.proofs.target.Statement.{statement}
 use Rattle.reading.proofs.target.Tie as tie
-use Rattle.reading.proofs.target.Reads as reads
-use Rattle.reading.proofs.target.Lts as lts
-use Rattle.reading.proofs.target_span.Reads as target-span-reads
 
 target-span-requires : tie.Need-target-span-requires
 target-span-requires c κs = search needs

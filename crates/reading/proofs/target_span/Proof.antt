@@ -1,16 +1,12 @@
 -- `reading::target_span` meets its contract. Assumes nothing.
-use mathlib.Core.Path.{_≡_, refl, sym, ap, _∙_}
-use Rattle.reading.specs.Reading.{Reading, readingOf}
+use mathlib.Core.Path.{sym, ap, _∙_}
+use Rattle.reading.specs.Reading.{readingOf}
 use Rattle.reading.specs.Records.{targetIn}
 use Rattle.reading.specs.Shown.{verdictIn}
 use Rattle.reading.proofs.Folds.{fine-left, fine-lexical, verdict-refused}
 use borrow.Author.Needs.{needs}
 use Rattle.reading.proofs.target_span.Statement.{statement}
 use Rattle.reading.proofs.target_span.Tie as tie
-use Rattle.reading.proofs.target_span.Reads as reads
-use Rattle.reading.proofs.target_span.Lts as lts
-use Rattle.reading.proofs.first_target.Reads as first-target-reads
-use Rattle.reading.proofs.verdict.Reads as verdict-reads
 
 verdict-requires : tie.Need-verdict-requires
 verdict-requires c κs = search needs

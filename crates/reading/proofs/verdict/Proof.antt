@@ -1,14 +1,11 @@
 -- `reading::verdict` meets its contract. Assumes nothing.
-use mathlib.Core.Path.{_≡_, refl, sym, ap, _∙_}
-use Rattle.reading.specs.Reading.{Reading, readingOf}
+use mathlib.Core.Path.{sym, ap, _∙_}
+use Rattle.reading.specs.Reading.{readingOf}
 use Rattle.reading.specs.Shown.{verdictIn}
 use Rattle.reading.proofs.Folds.{needed-fine, needed-refused}
 use borrow.Author.Needs.{needs}
 use Rattle.reading.proofs.verdict.Statement.{statement}
 use Rattle.reading.proofs.verdict.Tie as tie
-use Rattle.reading.proofs.verdict.Reads as reads
-use Rattle.reading.proofs.verdict.Lts as lts
-use Rattle.reading.proofs.put_reading.Reads as put-reading-reads
 
 slice-aggregate-put-reading : tie.Need-slice-aggregate-put-reading
 slice-aggregate-put-reading c = search needs

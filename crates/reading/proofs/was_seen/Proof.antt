@@ -1,12 +1,10 @@
 -- `reading::was_seen` meets its contract. Assumes nothing.
 use native.Mathlib.Omega.{arith}
-use mathlib.Core.Path.{_≡_, refl, sym, ap, _∙_}
+use mathlib.Core.Path.{sym}
 use lib.ListN.{List·getD-eq-default}
 use borrow.Author.Needs.{needs}
 use Rattle.reading.proofs.was_seen.Statement.{statement}
 use Rattle.reading.proofs.was_seen.Tie as tie
-use Rattle.reading.proofs.was_seen.Reads as reads
-use Rattle.reading.proofs.was_seen.Lts as lts
 
 array-read-result : tie.Need-array-read-result
 array-read-result c = search needs

@@ -9,11 +9,6 @@ use Rattle.terms.specs.Scan.{termAt}
 use Rattle.terms.proofs.TermLaws.{term-within}
 use Rattle.termcases.proofs.all_terms.Statement.{statement}
 use Rattle.termcases.proofs.all_terms.Tie as tie
-use Rattle.termcases.proofs.all_terms.Reads as reads
-use Rattle.termcases.proofs.all_terms.Lts as lts
-use Rattle.io.proofs.write_all.Reads as write-all-reads
-use Rattle.termcases.proofs.number.Reads as number-reads
-use Rattle.terms.proofs.term_at.Reads as term-at-reads
 
 abbrev Inv-loop : tie.InvT-loop
 Inv-loop line at₀ at = at ≤ length line

@@ -4,11 +4,6 @@ use Prim.Native.Nat.{_≤_, _-_}
 use lib.ListN.{length}
 use Rattle.termcases.proofs.cases.Statement.{statement}
 use Rattle.termcases.proofs.cases.Tie as tie
-use Rattle.termcases.proofs.cases.Reads as reads
-use Rattle.termcases.proofs.cases.Lts as lts
-use Rattle.io.proofs.write_all.Reads as write-all-reads
-use Rattle.termcases.proofs.show.Reads as show-reads
-use Rattle.text.proofs.pair.Reads as pair-reads
 
 abbrev Inv-loop : tie.InvT-loop
 Inv-loop input at₀ t6 t7 at = at ≤ length input

@@ -4,10 +4,6 @@ use Prim.Native.Nat.{_≤_, _-_}
 use lib.ListN.{length}
 use Rattle.termcases.proofs.runs.Statement.{statement}
 use Rattle.termcases.proofs.runs.Tie as tie
-use Rattle.termcases.proofs.runs.Reads as reads
-use Rattle.termcases.proofs.runs.Lts as lts
-use Rattle.termcases.proofs.alike.Reads as alike-reads
-use Rattle.termcases.proofs.same.Reads as same-reads
 
 abbrev Inv-loop : tie.InvT-loop
 Inv-loop bytes at₀ at = at ≤ length bytes

@@ -4,8 +4,6 @@ use Prim.Native.Nat.{_+_, _≤_, _-_}
 use lib.ListN.{length}
 use Rattle.termcases.proofs.same.Statement.{statement}
 use Rattle.termcases.proofs.same.Tie as tie
-use Rattle.termcases.proofs.same.Reads as reads
-use Rattle.termcases.proofs.same.Lts as lts
 
 abbrev Inv-loop : tie.InvT-loop
 Inv-loop bytes at x n₀ n = (1 ≤ n) × (at + n ≤ length bytes)

@@ -9,9 +9,6 @@ use Rattle.terms.specs.Scan.{ordinary}
 use Rattle.text.proofs.Scans.{all-kept, all-ended}
 use Rattle.terms.proofs.all_ordinary.Statement.{statement}
 use Rattle.terms.proofs.all_ordinary.Tie as tie
-use Rattle.terms.proofs.all_ordinary.Reads as reads
-use Rattle.terms.proofs.all_ordinary.Lts as lts
-use Rattle.terms.proofs.is_ordinary.Reads as is-ordinary-reads
 
 abbrev Inv-loop : tie.InvT-loop
 Inv-loop s all₀ i₀ all i = all && allOf (ordinary 34) (drop i s) ≡ allOf (ordinary 34) s

@@ -8,12 +8,6 @@ use Rattle.terms.proofs.ScanLaws.{one-in, pair-out, pair-in, pair-lengt
 use borrow.Author.Needs.{needs}
 use Rattle.terms.proofs.byte_meant.Statement.{statement}
 use Rattle.terms.proofs.byte_meant.Tie as tie
-use Rattle.terms.proofs.byte_meant.Reads as reads
-use Rattle.terms.proofs.byte_meant.Lts as lts
-use Rattle.terms.proofs.is_twelve.Reads as is-twelve-reads
-use Rattle.terms.proofs.is_two.Reads as is-two-reads
-use Rattle.terms.proofs.one_meant.Reads as one-meant-reads
-use Rattle.terms.proofs.pair_meant.Reads as pair-meant-reads
 
 enum-told : tie.Need-enum-told
 enum-told c = search needs

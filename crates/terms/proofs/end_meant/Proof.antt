@@ -3,8 +3,6 @@ use Rattle.terms.specs.Signs.{stands}
 use borrow.Author.Needs.{needs}
 use Rattle.terms.proofs.end_meant.Statement.{statement}
 use Rattle.terms.proofs.end_meant.Tie as tie
-use Rattle.terms.proofs.end_meant.Reads as reads
-use Rattle.terms.proofs.end_meant.Lts as lts
 
 enum-told : tie.Need-enum-told
 enum-told c = search needs

@@ -5,8 +5,6 @@ use Rattle.terms.proofs.ScanLaws.{end-is-bare}
 use borrow.Author.Needs.{needs}
 use Rattle.terms.proofs.ends_bare.Statement.{statement}
 use Rattle.terms.proofs.ends_bare.Tie as tie
-use Rattle.terms.proofs.ends_bare.Reads as reads
-use Rattle.terms.proofs.ends_bare.Lts as lts
 
 enum-told : tie.Need-enum-told
 enum-told c = search needs

@@ -9,8 +9,6 @@ use Rattle.text.proofs.Scans.{run-on, run-ends, run-past}
 use Rattle.terms.specs.Scan.{isSpace, startAt}
 use Rattle.terms.proofs.gap_end.Statement.{statement}
 use Rattle.terms.proofs.gap_end.Tie as tie
-use Rattle.terms.proofs.gap_end.Reads as reads
-use Rattle.terms.proofs.gap_end.Lts as lts
 
 abbrev Inv-loop : tie.InvT-loop
 Inv-loop line at i₀ i = i + runLen isSpace (drop i line) ≡ at + runLen isSpace (drop at line)

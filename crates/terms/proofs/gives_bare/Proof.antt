@@ -4,10 +4,6 @@ use Rattle.terms.proofs.ScanLaws.{in-no-bare, in-grave-no-bare}
 use borrow.Author.Needs.{needs}
 use Rattle.terms.proofs.gives_bare.Statement.{statement}
 use Rattle.terms.proofs.gives_bare.Tie as tie
-use Rattle.terms.proofs.gives_bare.Reads as reads
-use Rattle.terms.proofs.gives_bare.Lts as lts
-use Rattle.terms.proofs.grave_bare.Reads as grave-bare-reads
-use Rattle.terms.proofs.out_bare.Reads as out-bare-reads
 
 enum-told : tie.Need-enum-told
 enum-told c = search needs

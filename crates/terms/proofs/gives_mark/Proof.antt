@@ -4,8 +4,6 @@ use Rattle.terms.proofs.ScanLaws.{out-mark, in-mark, out-grave-no-mark,
 use borrow.Author.Needs.{needs}
 use Rattle.terms.proofs.gives_mark.Statement.{statement}
 use Rattle.terms.proofs.gives_mark.Tie as tie
-use Rattle.terms.proofs.gives_mark.Reads as reads
-use Rattle.terms.proofs.gives_mark.Lts as lts
 
 enum-told : tie.Need-enum-told
 enum-told c = search needs

@@ -7,9 +7,6 @@ use Rattle.terms.proofs.ScanLaws.{grave-is-bare}
 use borrow.Author.Needs.{needs}
 use Rattle.terms.proofs.grave_bare.Statement.{statement}
 use Rattle.terms.proofs.grave_bare.Tie as tie
-use Rattle.terms.proofs.grave_bare.Reads as reads
-use Rattle.terms.proofs.grave_bare.Lts as lts
-use Rattle.terms.proofs.is_twelve.Reads as is-twelve-reads
 
 is-twelve-requires : tie.Need-is-twelve-requires
 is-twelve-requires c κs = search needs

@@ -10,12 +10,6 @@ use Rattle.terms.proofs.ScanLaws.{some-on, some-stops, some-past}
 use Rattle.terms.proofs.RunLaws.{run-some}
 use Rattle.terms.proofs.has_bare.Statement.{statement}
 use Rattle.terms.proofs.has_bare.Tie as tie
-use Rattle.terms.proofs.has_bare.Reads as reads
-use Rattle.terms.proofs.has_bare.Lts as lts
-use Rattle.terms.proofs.ends_bare.Reads as ends-bare-reads
-use Rattle.terms.proofs.gives_bare.Reads as gives-bare-reads
-use Rattle.terms.proofs.ordinary_len.Reads as ordinary-len-reads
-use Rattle.terms.proofs.step.Reads as step-reads
 
 abbrev Inv-loop : tie.InvT-loop
 Inv-loop s b i₀ m₀ i m = anyOf (isBare b) (signs m (drop i s)) ≡ anyOf (isBare b) (signs Out s)

@@ -10,10 +10,6 @@ use Rattle.terms.specs.Marks.{isMark, hasMark}
 use Rattle.terms.proofs.ScanLaws.{some-on, some-stops, some-past, end-no-mark}
 use Rattle.terms.proofs.has_quote.Statement.{statement}
 use Rattle.terms.proofs.has_quote.Tie as tie
-use Rattle.terms.proofs.has_quote.Reads as reads
-use Rattle.terms.proofs.has_quote.Lts as lts
-use Rattle.terms.proofs.gives_mark.Reads as gives-mark-reads
-use Rattle.terms.proofs.step.Reads as step-reads
 
 abbrev Inv-loop : tie.InvT-loop
 Inv-loop s i₀ m₀ i m = anyOf isMark (signs m (drop i s)) ≡ anyOf isMark (signs Out s)

@@ -2,8 +2,6 @@
 use borrow.Author.Needs.{needs}
 use Rattle.terms.proofs.is_free.Statement.{statement}
 use Rattle.terms.proofs.is_free.Tie as tie
-use Rattle.terms.proofs.is_free.Reads as reads
-use Rattle.terms.proofs.is_free.Lts as lts
 
 returns : tie.Need-returns
 returns c = search needs

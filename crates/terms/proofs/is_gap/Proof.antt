@@ -2,8 +2,6 @@
 use borrow.Author.Needs.{needs}
 use Rattle.terms.proofs.is_gap.Statement.{statement}
 use Rattle.terms.proofs.is_gap.Tie as tie
-use Rattle.terms.proofs.is_gap.Reads as reads
-use Rattle.terms.proofs.is_gap.Lts as lts
 
 enum-told : tie.Need-enum-told
 enum-told c = search needs

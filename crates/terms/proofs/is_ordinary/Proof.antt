@@ -3,8 +3,6 @@ use borrow.Author.Tests.{eq-eqb, ne-eqb}
 use Rattle.terms.specs.Scan.{ordinary}
 use Rattle.terms.proofs.is_ordinary.Statement.{statement}
 use Rattle.terms.proofs.is_ordinary.Tie as tie
-use Rattle.terms.proofs.is_ordinary.Reads as reads
-use Rattle.terms.proofs.is_ordinary.Lts as lts
 
 returns : tie.Need-returns
 unfolding ordinary

@@ -5,8 +5,6 @@ use Rattle.text.specs.Bytes.{oneOf, bytes}
 use Rattle.terms.specs.Signs.{twelve}
 use Rattle.terms.proofs.is_twelve.Statement.{statement}
 use Rattle.terms.proofs.is_twelve.Tie as tie
-use Rattle.terms.proofs.is_twelve.Reads as reads
-use Rattle.terms.proofs.is_twelve.Lts as lts
 
 returns : tie.Need-returns
 unfolding oneOf twelve bytes

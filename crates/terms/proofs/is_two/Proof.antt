@@ -5,8 +5,6 @@ use Rattle.text.specs.Bytes.{oneOf, bytes}
 use Rattle.terms.specs.Signs.{two}
 use Rattle.terms.proofs.is_two.Statement.{statement}
 use Rattle.terms.proofs.is_two.Tie as tie
-use Rattle.terms.proofs.is_two.Reads as reads
-use Rattle.terms.proofs.is_two.Lts as lts
 
 returns : tie.Need-returns
 unfolding oneOf two bytes

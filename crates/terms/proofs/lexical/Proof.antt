@@ -6,11 +6,6 @@ use Rattle.terms.proofs.ScanLaws.{long-line}
 use borrow.Author.Needs.{needs}
 use Rattle.terms.proofs.lexical.Statement.{statement}
 use Rattle.terms.proofs.lexical.Tie as tie
-use Rattle.terms.proofs.lexical.Reads as reads
-use Rattle.terms.proofs.lexical.Lts as lts
-use Rattle.terms.proofs.many_flaw.Reads as many-flaw-reads
-use Rattle.terms.proofs.open_flaw.Reads as open-flaw-reads
-use Rattle.text.proofs.printable_len.Reads as printable-len-reads
 
 returns : tie.Need-returns
 returns c = sym (long-line (c .before .before .args .line .now) (c .if1 .taken))

@@ -19,10 +19,6 @@ use Rattle.terms.proofs.RowLaws.{many-few}
 use Rattle.terms.proofs.ScanLaws.{many-ends, many-on}
 use Rattle.terms.proofs.many_flaw.Statement.{statement}
 use Rattle.terms.proofs.many_flaw.Tie as tie
-use Rattle.terms.proofs.many_flaw.Reads as reads
-use Rattle.terms.proofs.many_flaw.Lts as lts
-use Rattle.terms.proofs.spaces.Reads as spaces-reads
-use Rattle.terms.proofs.term_at.Reads as term-at-reads
 
 abbrev Inv-loop : tie.InvT-loop
 Inv-loop line at₀ k₀ at k =

@@ -9,11 +9,6 @@ use Rattle.terms.proofs.TermLaws.{meant-length}
 use Rattle.terms.proofs.ScanLaws.{left-on, left-fits, left-end}
 use Rattle.terms.proofs.meant_len.Statement.{statement}
 use Rattle.terms.proofs.meant_len.Tie as tie
-use Rattle.terms.proofs.meant_len.Reads as reads
-use Rattle.terms.proofs.meant_len.Lts as lts
-use Rattle.terms.proofs.byte_meant.Reads as byte-meant-reads
-use Rattle.terms.proofs.end_meant.Reads as end-meant-reads
-use Rattle.terms.proofs.step.Reads as step-reads
 
 abbrev Inv-loop : tie.InvT-loop
 Inv-loop s i₀ m₀ n₀ i m n = n + length (stands (signs m (drop i s))) ≡ length (meant s)

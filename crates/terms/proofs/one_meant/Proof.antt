@@ -6,8 +6,6 @@ use Rattle.terms.specs.declared.Mode.the-variants.{Out}
 use Rattle.terms.specs.Signs.{gives, stands}
 use Rattle.terms.proofs.one_meant.Statement.{statement}
 use Rattle.terms.proofs.one_meant.Tie as tie
-use Rattle.terms.proofs.one_meant.Reads as reads
-use Rattle.terms.proofs.one_meant.Lts as lts
 
 returns : tie.Need-returns
 unfolding stands gives

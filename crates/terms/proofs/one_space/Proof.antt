@@ -2,8 +2,6 @@
 use borrow.Author.Tests.{eq-eqb, ne-eqb}
 use Rattle.terms.proofs.one_space.Statement.{statement}
 use Rattle.terms.proofs.one_space.Tie as tie
-use Rattle.terms.proofs.one_space.Reads as reads
-use Rattle.terms.proofs.one_space.Lts as lts
 
 returns : tie.Need-returns
 returns c = rw (eq-eqb _ _ (c .if1 .taken))

@@ -20,12 +20,6 @@ use Rattle.terms.proofs.RunLaws.{run-mode-from, run-opened-from}
 use Rattle.terms.proofs.ScanLaws.{opened-on, open-is}
 use Rattle.terms.proofs.open_flaw.Statement.{statement}
 use Rattle.terms.proofs.open_flaw.Tie as tie
-use Rattle.terms.proofs.open_flaw.Reads as reads
-use Rattle.terms.proofs.open_flaw.Lts as lts
-use Rattle.terms.proofs.is_free.Reads as is-free-reads
-use Rattle.terms.proofs.opened.Reads as opened-reads
-use Rattle.terms.proofs.ordinary_blocks.Reads as ordinary-blocks-reads
-use Rattle.terms.proofs.turned.Reads as turned-reads
 
 -- ---- the mode as two tests: inside quotes or not, and whether a GRAVE takes the next byte
 

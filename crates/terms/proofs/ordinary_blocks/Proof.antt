@@ -10,9 +10,6 @@ use Rattle.terms.specs.Scan.{ordinary}
 use Rattle.text.proofs.Scans.{run-part}
 use Rattle.terms.proofs.ordinary_blocks.Statement.{statement}
 use Rattle.terms.proofs.ordinary_blocks.Tie as tie
-use Rattle.terms.proofs.ordinary_blocks.Reads as reads
-use Rattle.terms.proofs.ordinary_blocks.Lts as lts
-use Rattle.terms.proofs.all_ordinary.Reads as all-ordinary-reads
 
 abbrev Inv-loop : tie.InvT-loop
 Inv-loop line i₀ i = (i + runLen (ordinary 34) (drop i line) ≡ runLen (ordinary 34) line) × (i ≤ length line)

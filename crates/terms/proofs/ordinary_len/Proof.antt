@@ -1,6 +1,6 @@
 -- `terms::ordinary_len` meets its contract. The loop's invariant: so many bytes and the run in the rest are the run.
 use Prim.Native.Nat.{_+_, _-_}
-use mathlib.Core.Path.{_≡_, refl, sym, ap, _∙_}
+use mathlib.Core.Path.{_≡_, sym, _∙_}
 use native.Mathlib.Omega.{arith}
 use borrow.Author.Tests.{not-true, not-false}
 use lib.ListN.{length, drop}
@@ -10,9 +10,6 @@ use Rattle.text.proofs.Scans.{run-on, run-ends, run-past}
 use borrow.Author.Needs.{needs}
 use Rattle.terms.proofs.ordinary_len.Statement.{statement}
 use Rattle.terms.proofs.ordinary_len.Tie as tie
-use Rattle.terms.proofs.ordinary_len.Reads as reads
-use Rattle.terms.proofs.ordinary_len.Lts as lts
-use Rattle.terms.proofs.is_ordinary.Reads as is-ordinary-reads
 
 abbrev Inv-loop : tie.InvT-loop
 Inv-loop s stop i₀ i = i + runLen (ordinary stop) (drop i s) ≡ runLen (ordinary stop) s

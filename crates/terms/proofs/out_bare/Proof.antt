@@ -6,8 +6,6 @@ use Rattle.terms.specs.Signs.{gives, isBare}
 use Rattle.terms.proofs.ScanLaws.{out-is-bare}
 use Rattle.terms.proofs.out_bare.Statement.{statement}
 use Rattle.terms.proofs.out_bare.Tie as tie
-use Rattle.terms.proofs.out_bare.Reads as reads
-use Rattle.terms.proofs.out_bare.Lts as lts
 
 returns : tie.Need-returns
 unfolding anyOf gives

@@ -6,8 +6,6 @@ use lib.Seq.{set-out}
 use borrow.Author.Needs.{needs}
 use Rattle.terms.proofs.put_after.Statement.{statement}
 use Rattle.terms.proofs.put_after.Tie as tie
-use Rattle.terms.proofs.put_after.Reads as reads
-use Rattle.terms.proofs.put_after.Lts as lts
 
 sub-if2 : tie.Need-sub-if2
 sub-if2 c = search needs

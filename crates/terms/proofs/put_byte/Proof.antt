@@ -3,12 +3,6 @@ use Rattle.terms.proofs.ScanLaws.{one-in, pair-out, pair-in}
 use borrow.Author.Needs.{needs}
 use Rattle.terms.proofs.put_byte.Statement.{statement}
 use Rattle.terms.proofs.put_byte.Tie as tie
-use Rattle.terms.proofs.put_byte.Reads as reads
-use Rattle.terms.proofs.put_byte.Lts as lts
-use Rattle.terms.proofs.is_twelve.Reads as is-twelve-reads
-use Rattle.terms.proofs.is_two.Reads as is-two-reads
-use Rattle.terms.proofs.put_one.Reads as put-one-reads
-use Rattle.terms.proofs.put_pair.Reads as put-pair-reads
 
 enum-told : tie.Need-enum-told
 enum-told c = search needs

@@ -4,9 +4,6 @@ use Rattle.terms.specs.Signs.{stands}
 use borrow.Author.Needs.{needs}
 use Rattle.terms.proofs.put_end.Statement.{statement}
 use Rattle.terms.proofs.put_end.Tie as tie
-use Rattle.terms.proofs.put_end.Reads as reads
-use Rattle.terms.proofs.put_end.Lts as lts
-use Rattle.terms.proofs.put_grave.Reads as put-grave-reads
 
 enum-told : tie.Need-enum-told
 enum-told c = search needs

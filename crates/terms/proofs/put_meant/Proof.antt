@@ -11,11 +11,6 @@ use Rattle.terms.proofs.TermLaws.{pend, meant-length}
 use Rattle.terms.proofs.ScanLaws.{width-on, left-on, left-fits, left-end, stored-on, stored-end}
 use Rattle.terms.proofs.put_meant.Statement.{statement}
 use Rattle.terms.proofs.put_meant.Tie as tie
-use Rattle.terms.proofs.put_meant.Reads as reads
-use Rattle.terms.proofs.put_meant.Lts as lts
-use Rattle.terms.proofs.put_byte.Reads as put-byte-reads
-use Rattle.terms.proofs.put_end.Reads as put-end-reads
-use Rattle.terms.proofs.step.Reads as step-reads
 
 abbrev Inv-loop : tie.InvT-loop
 Inv-loop out₀ at s i₀ m₀ w₀ out i m w =

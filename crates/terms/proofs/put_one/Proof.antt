@@ -9,9 +9,6 @@ use Rattle.terms.specs.Signs.{gives, stands}
 use borrow.Author.Needs.{needs}
 use Rattle.terms.proofs.put_one.Statement.{statement}
 use Rattle.terms.proofs.put_one.Tie as tie
-use Rattle.terms.proofs.put_one.Reads as reads
-use Rattle.terms.proofs.put_one.Lts as lts
-use Rattle.terms.proofs.put_after.Reads as put-after-reads
 
 put-after-requires : tie.Need-put-after-requires
 put-after-requires c κs = search needs

@@ -6,9 +6,6 @@ use mathlib.Core.Path.{_≡_, refl, ap, _∙_}
 use borrow.Author.Needs.{needs}
 use Rattle.terms.proofs.put_pair.Statement.{statement}
 use Rattle.terms.proofs.put_pair.Tie as tie
-use Rattle.terms.proofs.put_pair.Reads as reads
-use Rattle.terms.proofs.put_pair.Lts as lts
-use Rattle.terms.proofs.put_after.Reads as put-after-reads
 
 put-after-requires : tie.Need-put-after-requires
 put-after-requires c κs = search needs

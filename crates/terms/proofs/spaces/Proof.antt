@@ -9,9 +9,6 @@ use Rattle.terms.specs.Scan.{isSpace}
 use Rattle.terms.proofs.CountLaws.{spaces-on, space-one, spaces-past}
 use Rattle.terms.proofs.spaces.Statement.{statement}
 use Rattle.terms.proofs.spaces.Tie as tie
-use Rattle.terms.proofs.spaces.Reads as reads
-use Rattle.terms.proofs.spaces.Lts as lts
-use Rattle.terms.proofs.one_space.Reads as one-space-reads
 
 abbrev Inv-loop : tie.InvT-loop
 Inv-loop s n₀ i₀ n i = (n + length (parts isSpace (drop i s)) ≡ length (parts isSpace s)) × (n ≤ i)

@@ -5,10 +5,6 @@ use Rattle.terms.proofs.ScanLaws.{starts-none, starts-out, starts-lone,
 use borrow.Author.Needs.{needs}
 use Rattle.terms.proofs.starts_bare.Statement.{statement}
 use Rattle.terms.proofs.starts_bare.Tie as tie
-use Rattle.terms.proofs.starts_bare.Reads as reads
-use Rattle.terms.proofs.starts_bare.Lts as lts
-use Rattle.terms.proofs.is_twelve.Reads as is-twelve-reads
-use Rattle.terms.proofs.out_bare.Reads as out-bare-reads
 
 returns : tie.Need-returns
 returns c = sym (starts-none (c .before .before .args .b) (c .before .before .args .s .now) (c .if1 .taken))

@@ -6,9 +6,6 @@ use Rattle.terms.specs.Signs.{after}
 use borrow.Author.Needs.{needs}
 use Rattle.terms.proofs.step.Statement.{statement}
 use Rattle.terms.proofs.step.Tie as tie
-use Rattle.terms.proofs.step.Reads as reads
-use Rattle.terms.proofs.step.Lts as lts
-use Rattle.terms.proofs.step_by.Reads as step-by-reads
 
 step-by-requires : tie.Need-step-by-requires
 unfolding after

@@ -3,8 +3,6 @@ use Rattle.terms.specs.Signs.{after}
 use borrow.Author.Needs.{needs}
 use Rattle.terms.proofs.step_by.Statement.{statement}
 use Rattle.terms.proofs.step_by.Tie as tie
-use Rattle.terms.proofs.step_by.Reads as reads
-use Rattle.terms.proofs.step_by.Lts as lts
 
 enum-told : tie.Need-enum-told
 enum-told c = search needs

@@ -4,10 +4,6 @@ use Rattle.terms.proofs.ScanLaws.{term-at-is, found-term, found-none}
 use borrow.Author.Needs.{needs}
 use Rattle.terms.proofs.term_at.Statement.{statement}
 use Rattle.terms.proofs.term_at.Tie as tie
-use Rattle.terms.proofs.term_at.Reads as reads
-use Rattle.terms.proofs.term_at.Lts as lts
-use Rattle.terms.proofs.gap_end.Reads as gap-end-reads
-use Rattle.terms.proofs.term_end.Reads as term-end-reads
 
 gap-end-requires : tie.Need-gap-end-requires
 gap-end-requires c κs = search needs

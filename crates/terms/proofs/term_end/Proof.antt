@@ -6,10 +6,6 @@ use Rattle.terms.proofs.ScanLaws.{term-past}
 use Rattle.terms.proofs.RunLaws.{term-run, run-fits}
 use Rattle.terms.proofs.term_end.Statement.{statement}
 use Rattle.terms.proofs.term_end.Tie as tie
-use Rattle.terms.proofs.term_end.Reads as reads
-use Rattle.terms.proofs.term_end.Lts as lts
-use Rattle.terms.proofs.ordinary_len.Reads as ordinary-len-reads
-use Rattle.terms.proofs.term_rest.Reads as term-rest-reads
 
 returns : tie.Need-returns
 returns c = let a = c .before .before .args in omega (arith, term-past Out (a .line .now) (a .at) (c .if1 .taken))

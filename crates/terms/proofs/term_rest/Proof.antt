@@ -9,10 +9,6 @@ use Rattle.terms.specs.Scan.{termLen}
 use Rattle.terms.proofs.ScanLaws.{term-ends, term-on, term-past}
 use Rattle.terms.proofs.term_rest.Statement.{statement}
 use Rattle.terms.proofs.term_rest.Tie as tie
-use Rattle.terms.proofs.term_rest.Reads as reads
-use Rattle.terms.proofs.term_rest.Lts as lts
-use Rattle.terms.proofs.is_gap.Reads as is-gap-reads
-use Rattle.terms.proofs.step.Reads as step-reads
 
 abbrev Inv-loop : tie.InvT-loop
 Inv-loop line at i₀ m₀ i m = i + termLen m (drop i line) ≡ at + termLen Out (drop at line)

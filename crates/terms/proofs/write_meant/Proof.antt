@@ -8,10 +8,6 @@ use Rattle.terms.specs.Signs.{meant}
 use borrow.Author.Needs.{needs}
 use Rattle.terms.proofs.write_meant.Statement.{statement}
 use Rattle.terms.proofs.write_meant.Tie as tie
-use Rattle.terms.proofs.write_meant.Reads as reads
-use Rattle.terms.proofs.write_meant.Lts as lts
-use Rattle.terms.proofs.meant_len.Reads as meant-len-reads
-use Rattle.terms.proofs.put_meant.Reads as put-meant-reads
 
 meant-len-requires : tie.Need-meant-len-requires
 meant-len-requires c κs = search needs

@@ -9,9 +9,6 @@ use Rattle.text.specs.Bytes.{printable}
 use Rattle.text.proofs.Scans.{all-kept, all-ended}
 use Rattle.text.proofs.all_printable.Statement.{statement}
 use Rattle.text.proofs.all_printable.Tie as tie
-use Rattle.text.proofs.all_printable.Reads as reads
-use Rattle.text.proofs.all_printable.Lts as lts
-use Rattle.text.proofs.is_printable.Reads as is-printable-reads
 
 abbrev Inv-loop : tie.InvT-loop
 Inv-loop s all₀ i₀ all i = all && allOf printable (drop i s) ≡ allOf printable s

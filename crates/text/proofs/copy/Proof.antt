@@ -10,9 +10,6 @@ use Rattle.text.proofs.Writes.{sets-past, sets-cut, copy-more}
 use borrow.Author.Needs.{needs}
 use Rattle.text.proofs.copy.Statement.{statement}
 use Rattle.text.proofs.copy.Tie as tie
-use Rattle.text.proofs.copy.Reads as reads
-use Rattle.text.proofs.copy.Lts as lts
-use Rattle.text.proofs.least.Reads as least-reads
 
 abbrev Inv-loop : tie.InvT-loop
 Inv-loop out₀ at src n i₀ out i = (i ≤ n) × (length out ≡ length out₀) × (out ≡ sets out₀ at (take i src))

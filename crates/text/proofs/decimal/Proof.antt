@@ -1,6 +1,6 @@
 -- `text::decimal` meets its contract. The loop's invariant: what is read so far and the rest of the digits are the number.
 use Prim.Native.Nat.{ℕ, _+_, _-_, _*_, _≤_}
-use mathlib.Core.Path.{_≡_, refl, sym, ap, _∙_}
+use mathlib.Core.Path.{_≡_, sym, ap, _∙_}
 use native.Mathlib.Omega.{arith}
 use borrow.Author.Tests.{not-true, not-false}
 use lib.ListN.{length, drop, getD}
@@ -10,10 +10,6 @@ use Rattle.text.proofs.Decimals.{readOn, read-on, read-no, read-past, r
 use borrow.Author.Needs.{needs}
 use Rattle.text.proofs.decimal.Statement.{statement}
 use Rattle.text.proofs.decimal.Tie as tie
-use Rattle.text.proofs.decimal.Reads as reads
-use Rattle.text.proofs.decimal.Lts as lts
-use Rattle.text.proofs.digit_value.Reads as digit-value-reads
-use Rattle.text.proofs.is_digit.Reads as is-digit-reads
 
 abbrev Inv-loop : tie.InvT-loop
 Inv-loop s most limit v₀ i₀ v i = (i ≤ length s) × (v ≤ most) × (readOn most v (drop i s) ≡ decimalOf most s)

@@ -3,8 +3,6 @@ use native.Mathlib.Omega.{arith}
 use borrow.Author.Tests.{le-leb, lt-leb}
 use Rattle.text.proofs.is_digit.Statement.{statement}
 use Rattle.text.proofs.is_digit.Tie as tie
-use Rattle.text.proofs.is_digit.Reads as reads
-use Rattle.text.proofs.is_digit.Lts as lts
 
 returns : tie.Need-returns
 returns c = simp (lt-leb 48 (c .before .args .b) (omega arith))

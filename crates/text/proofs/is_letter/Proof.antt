@@ -3,8 +3,6 @@ use native.Mathlib.Omega.{arith}
 use borrow.Author.Tests.{le-leb, lt-leb}
 use Rattle.text.proofs.is_letter.Statement.{statement}
 use Rattle.text.proofs.is_letter.Tie as tie
-use Rattle.text.proofs.is_letter.Reads as reads
-use Rattle.text.proofs.is_letter.Lts as lts
 
 returns : tie.Need-returns
 returns c = let b = c .before .args .b in simp (lt-leb 65 b (omega arith), lt-leb 97 b (omega arith))

@@ -3,8 +3,6 @@ use native.Mathlib.Omega.{arith}
 use borrow.Author.Tests.{le-leb, lt-leb}
 use Rattle.text.proofs.is_printable.Statement.{statement}
 use Rattle.text.proofs.is_printable.Tie as tie
-use Rattle.text.proofs.is_printable.Reads as reads
-use Rattle.text.proofs.is_printable.Lts as lts
 
 returns : tie.Need-returns
 returns c = simp (lt-leb 32 (c .before .args .b) (omega arith))

@@ -1,13 +1,8 @@
 -- `text::is_word` meets its contract.
-use mathlib.Core.Path.{_≡_, refl, sym, ap, _∙_}
 use Rattle.text.specs.Bytes.{isWord}
 use borrow.Author.Needs.{needs}
 use Rattle.text.proofs.is_word.Statement.{statement}
 use Rattle.text.proofs.is_word.Tie as tie
-use Rattle.text.proofs.is_word.Reads as reads
-use Rattle.text.proofs.is_word.Lts as lts
-use Rattle.text.proofs.is_digit.Reads as is-digit-reads
-use Rattle.text.proofs.is_letter.Reads as is-letter-reads
 
 is-letter-requires : tie.Need-is-letter-requires
 is-letter-requires c κs = search needs

@@ -10,9 +10,6 @@ use Rattle.text.specs.Bytes.{printable}
 use Rattle.text.proofs.Scans.{run-part}
 use Rattle.text.proofs.printable_blocks.Statement.{statement}
 use Rattle.text.proofs.printable_blocks.Tie as tie
-use Rattle.text.proofs.printable_blocks.Reads as reads
-use Rattle.text.proofs.printable_blocks.Lts as lts
-use Rattle.text.proofs.all_printable.Reads as all-printable-reads
 
 abbrev Inv-loop : tie.InvT-loop
 Inv-loop s i₀ i = (i + runLen printable (drop i s) ≡ runLen printable s) × (i ≤ length s)

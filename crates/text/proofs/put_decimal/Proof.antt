@@ -1,6 +1,6 @@
 -- `text::put_decimal` meets its contract.
-use mathlib.Core.Path.{_≡_, refl, sym, ap, _∙_}
-use mathlib.Core.List.{List, [], _∷_}
+use mathlib.Core.Path.{_≡_, sym, ap, _∙_}
+use mathlib.Core.List.{[], _∷_}
 use native.Mathlib.Omega.{arith}
 use lib.Seq.{sets}
 use Rattle.text.specs.Decimal.{fiveDigits}
@@ -8,11 +8,6 @@ use Rattle.text.proofs.Decimals.{width-between, length-digits, digits-p
 use borrow.Author.Needs.{needs}
 use Rattle.text.proofs.put_decimal.Statement.{statement}
 use Rattle.text.proofs.put_decimal.Tie as tie
-use Rattle.text.proofs.put_decimal.Reads as reads
-use Rattle.text.proofs.put_decimal.Lts as lts
-use Rattle.text.proofs.copy.Reads as copy-reads
-use Rattle.text.proofs.digit.Reads as digit-reads
-use Rattle.text.proofs.width.Reads as width-reads
 
 digit-requires : tie.Need-digit-requires
 digit-requires c κs = search needs

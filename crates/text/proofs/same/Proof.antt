@@ -1,6 +1,6 @@
 -- `text::same` meets its contract. The loop's invariant: the two are the same where the rests are.
-use Prim.Native.Nat.{_+_, _-_}
-use mathlib.Core.Path.{_≡_, refl, sym, ap, _∙_}
+use Prim.Native.Nat.{_-_}
+use mathlib.Core.Path.{_≡_, refl, sym, _∙_}
 use native.Mathlib.Omega.{arith}
 use lib.ListN.{length, drop}
 use Rattle.text.specs.Bytes.{sameBytes}
@@ -8,8 +8,6 @@ use Rattle.text.proofs.Scans.{same-length as lengths-differ, same-on, s
 use borrow.Author.Needs.{needs}
 use Rattle.text.proofs.same.Statement.{statement}
 use Rattle.text.proofs.same.Tie as tie
-use Rattle.text.proofs.same.Reads as reads
-use Rattle.text.proofs.same.Lts as lts
 
 abbrev Inv-loop : tie.InvT-loop
 Inv-loop a b i₀ i = sameBytes (drop i a) (drop i b) ≡ sameBytes a b

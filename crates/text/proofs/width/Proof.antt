@@ -4,8 +4,6 @@ use borrow.Author.Tests.{lt-ltb, le-ltb}
 use Rattle.text.specs.Decimal.{width}
 use Rattle.text.proofs.width.Statement.{statement}
 use Rattle.text.proofs.width.Tie as tie
-use Rattle.text.proofs.width.Reads as reads
-use Rattle.text.proofs.width.Lts as lts
 
 returns : tie.Need-returns
 unfolding width

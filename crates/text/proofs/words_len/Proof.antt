@@ -1,6 +1,6 @@
 -- `text::words_len` meets its contract. The loop's invariant: so many bytes and the run in the rest are the run.
 use Prim.Native.Nat.{_+_, _-_}
-use mathlib.Core.Path.{_≡_, refl, sym, ap, _∙_}
+use mathlib.Core.Path.{_≡_, sym, _∙_}
 use native.Mathlib.Omega.{arith}
 use borrow.Author.Tests.{not-true, not-false}
 use lib.ListN.{length, drop}
@@ -10,9 +10,6 @@ use Rattle.text.proofs.Scans.{run-on, run-ends, run-past}
 use borrow.Author.Needs.{needs}
 use Rattle.text.proofs.words_len.Statement.{statement}
 use Rattle.text.proofs.words_len.Tie as tie
-use Rattle.text.proofs.words_len.Reads as reads
-use Rattle.text.proofs.words_len.Lts as lts
-use Rattle.text.proofs.is_word.Reads as is-word-reads
 
 abbrev Inv-loop : tie.InvT-loop
 Inv-loop s i₀ i = i + runLen isWord (drop i s) ≡ runLen isWord s

@@ -1,10 +1,8 @@
 -- `treecases::dots` is safe and ends: what it reads lies inside its input. Assumes nothing.
 use Rattle.treecases.proofs.dots.Statement.{statement}
 use Rattle.treecases.proofs.dots.Tie as tie
-use Rattle.treecases.proofs.dots.Reads as reads
-use Rattle.treecases.proofs.dots.Lts as lts
 use borrow.Author.Needs.{needs}
-use Prim.Native.Nat.{_+_, _≤_, _-_}
+use Prim.Native.Nat.{_≤_, _-_}
 use lib.ListN.{length}
 
 abbrev Inv-loop : tie.InvT-loop

@@ -1,14 +1,8 @@
 -- `treecases::group` is safe and ends: what it reads lies inside its input. Assumes nothing.
 use Rattle.treecases.proofs.group.Statement.{statement}
 use Rattle.treecases.proofs.group.Tie as tie
-use Rattle.treecases.proofs.group.Reads as reads
-use Rattle.treecases.proofs.group.Lts as lts
-use Rattle.io.proofs.write_all.Reads as write-all-reads
-use Rattle.text.proofs.pair.Reads as pair-reads
-use Rattle.treecases.proofs.case.Reads as case-reads
-use Rattle.treecases.proofs.checked.Reads as checked-reads
 use borrow.Author.Needs.{needs}
-use Prim.Native.Nat.{_+_, _≤_, _-_}
+use Prim.Native.Nat.{_≤_, _-_}
 use lib.ListN.{length}
 
 abbrev Inv-loop : tie.InvT-loop

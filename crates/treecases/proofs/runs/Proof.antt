@@ -1,13 +1,8 @@
 -- `treecases::runs` is safe and ends: what it reads lies inside its input. Assumes nothing.
 use Rattle.treecases.proofs.runs.Statement.{statement}
 use Rattle.treecases.proofs.runs.Tie as tie
-use Rattle.treecases.proofs.runs.Reads as reads
-use Rattle.treecases.proofs.runs.Lts as lts
-use Rattle.treecases.proofs.alike.Reads as alike-reads
-use Rattle.treecases.proofs.same.Reads as same-reads
-use Rattle.treecases.proofs.wide.Reads as wide-reads
 use borrow.Author.Needs.{needs}
-use Prim.Native.Nat.{_+_, _≤_, _-_}
+use Prim.Native.Nat.{_≤_, _-_}
 use lib.ListN.{length}
 
 abbrev Inv-loop : tie.InvT-loop

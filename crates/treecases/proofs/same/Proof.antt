@@ -1,8 +1,6 @@
 -- `treecases::same` is safe and ends: what it reads lies inside its input. Assumes nothing.
 use Rattle.treecases.proofs.same.Statement.{statement}
 use Rattle.treecases.proofs.same.Tie as tie
-use Rattle.treecases.proofs.same.Reads as reads
-use Rattle.treecases.proofs.same.Lts as lts
 use borrow.Author.Needs.{needs}
 use Prim.Native.Nat.{_+_, _≤_, _-_}
 use lib.ListN.{length}

@@ -4,8 +4,6 @@ use Prim.Native.Nat.{_-_, _≤_}
 use lib.ListN.{length}
 use Rattle.wordcases.proofs.line_len.Statement.{statement}
 use Rattle.wordcases.proofs.line_len.Tie as tie
-use Rattle.wordcases.proofs.line_len.Reads as reads
-use Rattle.wordcases.proofs.line_len.Lts as lts
 
 abbrev Inv-loop : tie.InvT-loop
 Inv-loop s n₀ n = n ≤ length s

@@ -3,9 +3,6 @@ use borrow.Author.Needs.{needs}
 use Prim.Native.Nat.{_-_, _≤_}
 use Rattle.wordcases.proofs.numbers.Statement.{statement}
 use Rattle.wordcases.proofs.numbers.Tie as tie
-use Rattle.wordcases.proofs.numbers.Reads as reads
-use Rattle.wordcases.proofs.numbers.Lts as lts
-use Rattle.wordcases.proofs.one.Reads as one-reads
 
 abbrev Inv-loop : tie.InvT-loop
 Inv-loop n₀ n = n ≤ 255

@@ -4,10 +4,6 @@ use Prim.Native.Nat.{_+_, _-_, _≤_}
 use lib.ListN.{length}
 use Rattle.wordcases.proofs.texts.Statement.{statement}
 use Rattle.wordcases.proofs.texts.Tie as tie
-use Rattle.wordcases.proofs.texts.Reads as reads
-use Rattle.wordcases.proofs.texts.Lts as lts
-use Rattle.wordcases.proofs.line_len.Reads as line-len-reads
-use Rattle.wordcases.proofs.text.Reads as text-reads
 
 abbrev Inv-loop : tie.InvT-loop
 Inv-loop s at₀ at = at ≤ length s + 1

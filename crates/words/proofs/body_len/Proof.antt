@@ -8,8 +8,6 @@ use Rattle.words.proofs.RowLaws.{body-out, body-at, body-is}
 use borrow.Author.Needs.{needs}
 use Rattle.words.proofs.body_len.Statement.{statement}
 use Rattle.words.proofs.body_len.Tie as tie
-use Rattle.words.proofs.body_len.Reads as reads
-use Rattle.words.proofs.body_len.Lts as lts
 
 returns : tie.Need-returns
 returns c = sym (ap known (body-out (c .before .args .kind) (c .if1 .taken)))

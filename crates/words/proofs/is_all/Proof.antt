@@ -4,9 +4,6 @@ use Rattle.words.specs.Words.{names, allName}
 use borrow.Author.Needs.{needs}
 use Rattle.words.proofs.is_all.Statement.{statement}
 use Rattle.words.proofs.is_all.Tie as tie
-use Rattle.words.proofs.is_all.Reads as reads
-use Rattle.words.proofs.is_all.Lts as lts
-use Rattle.text.proofs.same.Reads as same-reads
 
 slice-aggregate-same : tie.Need-slice-aggregate-same
 slice-aggregate-same c = search needs

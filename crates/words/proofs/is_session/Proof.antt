@@ -4,9 +4,6 @@ use Rattle.words.specs.Words.{sessionName}
 use borrow.Author.Needs.{needs}
 use Rattle.words.proofs.is_session.Statement.{statement}
 use Rattle.words.proofs.is_session.Tie as tie
-use Rattle.words.proofs.is_session.Reads as reads
-use Rattle.words.proofs.is_session.Lts as lts
-use Rattle.text.proofs.same.Reads as same-reads
 
 slice-aggregate-same : tie.Need-slice-aggregate-same
 slice-aggregate-same c = search needs

@@ -4,8 +4,6 @@ use Rattle.words.proofs.RowLaws.{kind-rest}
 use Rattle.words.specs.Rows.{kindAt}
 use Rattle.words.proofs.kind_at.Statement.{statement}
 use Rattle.words.proofs.kind_at.Tie as tie
-use Rattle.words.proofs.kind_at.Reads as reads
-use Rattle.words.proofs.kind_at.Lts as lts
 
 returns : tie.Need-returns
 unfolding kindAt

@@ -9,9 +9,6 @@ use Rattle.words.proofs.RowLaws.{kind-out, row-kind}
 use borrow.Author.Needs.{needs}
 use Rattle.words.proofs.kind_of.Statement.{statement}
 use Rattle.words.proofs.kind_of.Tie as tie
-use Rattle.words.proofs.kind_of.Reads as reads
-use Rattle.words.proofs.kind_of.Lts as lts
-use Rattle.words.proofs.kind_at.Reads as kind-at-reads
 
 returns : tie.Need-returns
 unfolding kindOf kinds

@@ -2,9 +2,6 @@
 use borrow.Author.Needs.{needs}
 use Rattle.words.proofs.only.Statement.{statement}
 use Rattle.words.proofs.only.Tie as tie
-use Rattle.words.proofs.only.Reads as reads
-use Rattle.words.proofs.only.Lts as lts
-use Rattle.text.proofs.same.Reads as same-reads
 
 same-requires : tie.Need-same-requires
 same-requires c κs = search needs

@@ -9,9 +9,6 @@ use Rattle.words.proofs.RowLaws.{row-fits, find-options, row-hit, row-m
 use Rattle.text.specs.Bytes.{bytes}
 use Rattle.words.proofs.option.Statement.{statement}
 use Rattle.words.proofs.option.Tie as tie
-use Rattle.words.proofs.option.Reads as reads
-use Rattle.words.proofs.option.Lts as lts
-use Rattle.words.proofs.row_names.Reads as row-names-reads
 
 abbrev Inv-loop : tie.InvT-loop
 Inv-loop t i₀ t3 i = (i ≤ 12) × (findRow (i + 1) (drop i optionRows) t ≡ optionOf t)

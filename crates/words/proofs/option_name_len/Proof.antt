@@ -11,8 +11,6 @@ use Rattle.words.proofs.RowLaws.{option-fits, option-name, option-none,
 use borrow.Author.Needs.{needs}
 use Rattle.words.proofs.option_name_len.Statement.{statement}
 use Rattle.words.proofs.option_name_len.Tie as tie
-use Rattle.words.proofs.option_name_len.Reads as reads
-use Rattle.words.proofs.option_name_len.Lts as lts
 
 returns : tie.Need-returns
 returns c = sym (ap length (ap optionName (c .if1 .taken) ∙ option-none))

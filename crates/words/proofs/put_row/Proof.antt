@@ -8,9 +8,6 @@ use Rattle.words.proofs.RowLaws.{row-length}
 use borrow.Author.Needs.{needs}
 use Rattle.words.proofs.put_row.Statement.{statement}
 use Rattle.words.proofs.put_row.Tie as tie
-use Rattle.words.proofs.put_row.Reads as reads
-use Rattle.words.proofs.put_row.Lts as lts
-use Rattle.text.proofs.copy.Reads as copy-reads
 
 shared-slice-read-n : tie.Need-shared-slice-read-n
 shared-slice-read-n c = search needs

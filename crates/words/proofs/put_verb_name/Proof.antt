@@ -12,9 +12,6 @@ use Rattle.words.proofs.RowLaws.{verb-fits, verb-name, verb-none, verb-
 use borrow.Author.Needs.{needs}
 use Rattle.words.proofs.put_verb_name.Statement.{statement}
 use Rattle.words.proofs.put_verb_name.Tie as tie
-use Rattle.words.proofs.put_verb_name.Reads as reads
-use Rattle.words.proofs.put_verb_name.Lts as lts
-use Rattle.words.proofs.put_row.Reads as put-row-reads
 
 returns : tie.Need-returns
 returns c =

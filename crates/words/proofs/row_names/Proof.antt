@@ -8,9 +8,6 @@ use Rattle.words.proofs.RowLaws.{row-short, row-no-short, row-long}
 use borrow.Author.Needs.{needs}
 use Rattle.words.proofs.row_names.Statement.{statement}
 use Rattle.words.proofs.row_names.Tie as tie
-use Rattle.words.proofs.row_names.Reads as reads
-use Rattle.words.proofs.row_names.Lts as lts
-use Rattle.text.proofs.same.Reads as same-reads
 
 shared-slice-read-short : tie.Need-shared-slice-read-short
 shared-slice-read-short c = search needs

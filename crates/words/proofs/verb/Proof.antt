@@ -8,12 +8,6 @@ use Rattle.words.proofs.RowLaws.{find-of, no-verb}
 use borrow.Author.Needs.{needs}
 use Rattle.words.proofs.verb.Statement.{statement}
 use Rattle.words.proofs.verb.Tie as tie
-use Rattle.words.proofs.verb.Reads as reads
-use Rattle.words.proofs.verb.Lts as lts
-use Rattle.words.proofs.only.Reads as only-reads
-use Rattle.words.proofs.verb_of_five.Reads as verb-of-five-reads
-use Rattle.words.proofs.verb_of_four.Reads as verb-of-four-reads
-use Rattle.words.proofs.verb_of_six.Reads as verb-of-six-reads
 
 slice-aggregate-only : tie.Need-slice-aggregate-only
 slice-aggregate-only c = search needs

@@ -6,10 +6,6 @@ use Rattle.words.specs.Rows.{findOf}
 use borrow.Author.Needs.{needs}
 use Rattle.words.proofs.verb_of_six.Statement.{statement}
 use Rattle.words.proofs.verb_of_six.Tie as tie
-use Rattle.words.proofs.verb_of_six.Reads as reads
-use Rattle.words.proofs.verb_of_six.Lts as lts
-use Rattle.text.proofs.same.Reads as same-reads
-use Rattle.words.proofs.only.Reads as only-reads
 
 slice-aggregate-same : tie.Need-slice-aggregate-same
 slice-aggregate-same c = search needs

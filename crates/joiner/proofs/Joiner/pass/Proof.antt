@@ -7,9 +7,6 @@ use Rattle.joiner.proofs.Laws.{unmarked}
 use Rattle.joiner.proofs.Reach.{to-fine, of-fine}
 use Rattle.joiner.proofs.Joiner.pass.Statement.{statement}
 use Rattle.joiner.proofs.Joiner.pass.Tie as tie
-use Rattle.joiner.proofs.Joiner.pass.Reads as reads
-use Rattle.joiner.proofs.Joiner.pass.Lts as lts
-use Rattle.joiner.proofs.pass_plain.Reads as pass-plain-reads
 
 returns : tie.Need-returns
 returns c = let p = c .before .before .before .pre in (le-refl _, (p .1 .1, (p .1 .0, refl)))

@@ -1,6 +1,5 @@
 -- `reading::Cursor::next` meets its contract. Assumes nothing.
-use Prim.Native.Nat.{_+_}
-use mathlib.Core.Path.{_≡_, refl, sym, ap, _∙_}
+use mathlib.Core.Path.{sym, ap, _∙_}
 use native.Mathlib.Omega.{arith}
 use Rattle.reading.specs.Cursor.{cursorAfter, step}
 use Rattle.reading.specs.declared.Given.{Given}
@@ -8,10 +7,6 @@ use Rattle.reading.proofs.Steps.{given-part, step-of}
 use borrow.Author.Needs.{needs}
 use Rattle.reading.proofs.Cursor.next.Statement.{statement}
 use Rattle.reading.proofs.Cursor.next.Tie as tie
-use Rattle.reading.proofs.Cursor.next.Reads as reads
-use Rattle.reading.proofs.Cursor.next.Lts as lts
-use Rattle.reading.proofs.after.Reads as after-reads
-use Rattle.reading.proofs.given_next.Reads as given-next-reads
 
 given-next-requires : tie.Need-given-next-requires
 given-next-requires c κs = search needs
