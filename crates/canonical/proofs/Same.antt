@@ -2,9 +2,8 @@
 use Prim.Native.Nat.{ℕ, _<_, _≤_}
 use mathlib.Core.Path.{_≡_, sym, ap, _∙_}
 use mathlib.Core.List.{List}
-use mathlib.Core.Option.{some}
+use mathlib.Core.Option.{some, Option·some-injective}
 use lib.ListN.{length}
-use Rattle.text.proofs.Basics.{same-some}
 use Rattle.reading.specs.Command.{Item}
 use Rattle.reading.specs.Reading.{refusal, readingOf, commandOf}
 use Rattle.canonical.specs.Canonical.{writing}
@@ -21,4 +20,4 @@ written-same l m c d p q h e =
     let k : length (writing d) ≤ 1024 = rw e at h in
     let a : commandOf (writing c) ≡ some c = read-back l c p h in
     let b : commandOf (writing d) ≡ some d = read-back m d q k in
-    same-some c d (sym a ∙ ap commandOf e ∙ b)
+    Option·some-injective c d (sym a ∙ ap commandOf e ∙ b)

@@ -4,14 +4,14 @@ use Prim.Native.Nat.{ℕ}
 use mathlib.Core.Path.{_≡_, refl, sym, ap, _∙_}
 use mathlib.Core.List.{List, [], _∷_, _++_, map, append-assoc, append-nil}
 use mathlib.Core.Bool.{Bool, true, false, cond, not, _&&_}
-use mathlib.Core.Option.{some}
+use mathlib.Core.Option.{some, Option·some-injective}
 use native.Mathlib.Omega.{arith}
 use lib.ListN.{length, drop}
 use lib.Dec.{eqb, leb}
 use borrow.Author.Tests.{ne-eqb, not-true}
 use Rattle.text.specs.Bytes.{bytes, oneOf, isWord}
 use Rattle.text.specs.Lists.{allOf, anyOf, upTo, past, onto, each, between, isNil, given, every}
-use Rattle.text.proofs.Basics.{and-l, and-r, or-l, or-r, no-case, same-some, given-some, parts-some, between-parts, all-none, nil-is}
+use Rattle.text.proofs.Basics.{and-l, and-r, or-l, or-r, no-case, given-some, parts-some, between-parts, all-none, nil-is}
 use Rattle.terms.specs.Signs.{Sign, bare, escaped, quote, quoted, quotedEscaped, raws, stands, isBare, bares}
 use Rattle.forms.specs.Forms.{starts, hasEq, isName, isPlainSign, endsQuote, isText, Value, many, itemsIn, isList, valueOf, Entry, entryOf, entryParts, entriesOf, Said, saidOf, Property, propertyOf, topicOf}
 use Rattle.canonical.specs.Canonical.{writeText, writeTexts, writeValue, writeOptional, writeEntry, writeSaid, writeProperty}
@@ -238,7 +238,7 @@ entries-write a [] e es h k =
 entries-write a (w ∷ ws) e es h k =
     let g = given-some (entryOf w) (λ x. given (every (map entryOf ws)) (λ xs. some (x ∷ xs))) es k in
     let f = given-some (every (map entryOf ws)) (λ xs. some (g .what ∷ xs)) es (g .gives) in
-    let z : es ≡ g .what ∷ f .what = sym (same-some _ es (f .gives)) in
+    let z : es ≡ g .what ∷ f .what = sym (Option·some-injective _ es (f .gives)) in
     rw z
     (entry-writes a (bare 44 ∷ (w ++ each (bare 44) ws)) e h comma-parts
     ∙ ap (λ (y : List Sign). writeEntry e ++ y) (parted (bare 44) (w ++ each (bare 44) ws) comma-parts
@@ -273,7 +273,7 @@ entries-written t es h = go (entryParts false t) (entry-parts-some false t) (ent
     go (p ∷ ps) n e k =
         let g = given-some (entryOf p) (λ x. given (every (map entryOf ps)) (λ xs. some (x ∷ xs))) es k in
         let f = given-some (every (map entryOf ps)) (λ xs. some (g .what ∷ xs)) es (g .gives) in
-        let z : es ≡ g .what ∷ f .what = sym (same-some _ es (f .gives)) in
+        let z : es ≡ g .what ∷ f .what = sym (Option·some-injective _ es (f .gives)) in
         rw z (ap rewritten (sym e) ∙ entries-write p ps (g .what) (f .what) (g .is) (f .is))
 
 -- ---- properties

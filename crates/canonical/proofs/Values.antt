@@ -174,9 +174,6 @@ unfolding anyOf
 starts-none k [] e = refl
 starts-none k (x ∷ t) e = or-l (isBare k x) (anyOf (isBare k) t) e
 
-pub text-some : (s : List ℕ) → isNil (writeText s) ≡ false
-text-some s = text-case (λ z. isNil z ≡ false) s (λ n e. map-some bare s n) refl
-
 -- ---- values
 
 -- what is known of a value that was read

@@ -271,10 +271,6 @@ item-by m (b ∷ s) = go (endsItem m b) refl (item-by (after m b) s)
 pub item-first : (s : List ℕ) → itemsIn (signs Out s) ≡ signs Out (take (itemLen Out s) s) ∷ afterItem (drop (itemLen Out s) s)
 item-first s = item-by Out s
 
-pub item-within : (m : Mode) (s : List ℕ) → itemLen m s ≤ length s
-unfolding itemLen
-item-within = scan-within endsItem after itemLen (λ m. refl) (λ m b s. refl)
-
 -- by places: a comma follows its first k bytes, a parenthesis does, or nothing
 module _ (u : List ℕ) (k : ℕ) (e : k ≡ itemLen Out u) where
   pub item-more : k < length u → getD u k 0 ≡ 44 → itemsIn (signs Out u) ≡ signs Out (take k u) ∷ itemsIn (signs Out (drop (k + 1) u))

@@ -3,14 +3,14 @@ use Prim.Native.Nat.{ℕ}
 use mathlib.Core.Path.{_≡_, refl, sym, ap, _∙_}
 use mathlib.Core.List.{List, [], _∷_, _++_}
 use mathlib.Core.Bool.{Bool, true, false, cond, not, _&&_}
-use mathlib.Core.Option.{Option, none, some}
+use mathlib.Core.Option.{Option, none, some, Option·some-injective}
 use native.Mathlib.Omega.{arith}
 use lib.ListN.{length, drop, getD}
 use lib.Dec.{eqb, leb}
 use borrow.Author.Tests.{eqb-true, eq-eqb, not-true}
 use Rattle.text.specs.declared.Verdict.{Verdict}
 use Rattle.text.specs.declared.Verdict.the-variants.{Fine, Flawed}
-use Rattle.text.proofs.Basics.{and-l, and-r, no-case, same-some}
+use Rattle.text.proofs.Basics.{and-l, and-r, no-case}
 use Rattle.terms.specs.Signs.{Sign, raws}
 use Rattle.terms.specs.Terms.{Term, termsOf}
 use Rattle.terms.specs.Rows.{lexicalOf}
@@ -37,7 +37,7 @@ first-holds f [] k h = let z : _≡_ {A = ℕ} 0 1 = cc in absurd (omega arith)
 first-holds f (j ∷ js) k h = go (f j) refl (first-holds f js k)
   where
     go : (x : Bool) → f j ≡ x → (firstOf f js ≡ some k → f k ≡ true) → f k ≡ true
-    go true e ih = let z : j ≡ k = same-some j k (rw e at h) in ap f (sym z) ∙ e
+    go true e ih = let z : j ≡ k = Option·some-injective j k (rw e at h) in ap f (sym z) ∙ e
     go false e ih = ih (rw e at h)
 
 first-is : (f : ℕ → Bool) (js : List ℕ) (k : ℕ) → firstOf f js ≡ some k → isFirstOf f js k ≡ true
@@ -47,7 +47,7 @@ first-is f (j ∷ js) k h = go (f j) (eqb j k) refl refl (first-is f js k)
   where
     go : (x y : Bool) → f j ≡ x → eqb j k ≡ y → (firstOf f js ≡ some k → isFirstOf f js k ≡ true) → isFirstOf f (j ∷ js) k ≡ true
     go true true e d ih = simp (d, e)
-    go true false e d ih = let z : j ≡ k = same-some j k (rw e at h) in no-case (sym (eq-eqb j k z) ∙ d)
+    go true false e d ih = let z : j ≡ k = Option·some-injective j k (rw e at h) in no-case (sym (eq-eqb j k z) ∙ d)
     go false true e d ih = let z = eqb-true j k d in no-case (sym (first-holds f js k (rw e at h)) ∙ ap f (sym z) ∙ e)
     go false false e d ih = simp (d, e) (ih (rw e at h))
 
@@ -186,7 +186,7 @@ stops n s (t ∷ ts) k p h = go (decide s (t .text)) refl (λ i. stops n (next s
 walk-term : (n : ℕ) (s u : State) (before : List Term) (t : Term) (after : List Term) (k : ℕ) → stateAfter s before ≡ some u → decide u (t .text) ≡ refuses k
     → walkTerms n s (before ++ (t ∷ after)) ≡ refusal k (t .start)
 unfolding walkTerms stateAfter
-walk-term n s u [] t after k h d = let z : s ≡ u = same-some s u h in rw (ap (λ (v : State). decide v (t .text)) z ∙ d)
+walk-term n s u [] t after k h d = let z : s ≡ u = Option·some-injective s u h in rw (ap (λ (v : State). decide v (t .text)) z ∙ d)
 walk-term n s u (b ∷ bs) t after k h d = go (decide s (b .text)) refl (λ i q. walk-term n (next s i) u bs t after k q d)
   where
     go : (e : Decision) → decide s (b .text) ≡ e → ((i : Item) → stateAfter (next s i) bs ≡ some u → walkTerms n (next s i) (bs ++ (t ∷ after)) ≡ refusal k (t .start))
@@ -196,7 +196,7 @@ walk-term n s u (b ∷ bs) t after k h d = go (decide s (b .text)) refl (λ i q.
 
 walk-end : (n : ℕ) (s u : State) (ts : List Term) → stateAfter s ts ≡ some u → isWaits (u .phase) ≡ true → walkTerms n s ts ≡ refusal 9 n
 unfolding walkTerms stateAfter
-walk-end n s u [] h w = let z : s ≡ u = same-some s u h in go (s .phase) (ap (λ (v : State). isWaits (v .phase)) z ∙ w)
+walk-end n s u [] h w = let z : s ≡ u = Option·some-injective s u h in go (s .phase) (ap (λ (v : State). isWaits (v .phase)) z ∙ w)
   where
     go : (ph : Phase) → isWaits ph ≡ true → ended ph n ≡ refusal 9 n
     go First e = no-case (sym e)

@@ -2,7 +2,7 @@
 -- The terms of a line, taken one at a time: `termAt` gives the first, its signs are those of its own bytes, and the rest are the terms from its end on.
 use Prim.Native.Nat.{ℕ, zero, suc, _+_, _<_, _≤_}
 use mathlib.Core.Path.{_≡_, refl, sym, ap, _∙_}
-use mathlib.Core.List.{List, [], _∷_, _++_, map, append-assoc, append-nil}
+use mathlib.Core.List.{List, [], _∷_, _++_, map, append-assoc, append-nil, cons-eq-cons, cons≢nil}
 use mathlib.Core.Bool.{Bool, true, false, not}
 use native.Mathlib.Omega.{arith}
 use lib.ListN.{length, getD, take, drop, length-append, length-drop, drop-of-length-le, replicate}
@@ -404,12 +404,6 @@ term-size l a n h = ap length (raws-signs (take n (drop a l))) ∙ length-betwee
 
 -- ---- GOING ON FROM THE END OF EACH TERM yields the line's terms in order, and then none, however often it is asked again
 
-cons-inv : {A : Type 0} (x y : A) (xs ys : List A) → x ∷ xs ≡ y ∷ ys → (x ≡ y) × (xs ≡ ys)
-cons-inv x y xs ys e = (cc, cc)
-
-no-cons : {A P : Type 0} (x : A) (xs : List A) → x ∷ xs ≡ [] → P
-no-cons x xs e = absurd (let z : _≡_ {A = ℕ} 0 1 = cc in omega arith)
-
 stays : (l : List ℕ) (at k : ℕ) → termAt l at ≡ found.None → going k l at ≡ replicate k found.None
 unfolding going
 stays l at zero e = refl
@@ -421,15 +415,15 @@ from-here l k at [] e = go (termAt l at) refl
   where
     go : (f : Found) → termAt l at ≡ f → going (0 + k) l at ≡ replicate k found.None
     go found.None p = let z : 0 + k ≡ k = omega arith in ap (λ (i : ℕ). going i l at) z ∙ stays l at k p
-    go (found.Term a n) p = no-cons _ _ (sym (terms-some l at a n (sym p)) ∙ e)
+    go (found.Term a n) p = absurd (cons≢nil (sym (terms-some l at a n (sym p)) ∙ e))
 from-here l k at (t ∷ ts) e = go (termAt l at) refl (λ i. from-here l k i ts)
   where
     go : (f : Found) → termAt l at ≡ f → ((i : ℕ) → termsFrom i true (signs Out (drop i l)) ≡ ts → going (length ts + k) l i ≡ map answerOf ts ++ replicate k found.None)
         → going (suc (length ts) + k) l at ≡ answerOf t ∷ (map answerOf ts ++ replicate k found.None)
-    go found.None p ih = no-cons _ _ (sym (sym (terms-none l at (sym p)) ∙ e))
+    go found.None p ih = absurd (cons≢nil (sym (sym (terms-none l at (sym p)) ∙ e)))
     go (found.Term a n) p ih =
         let w = term-within l at a n (sym p) in
-        let c = cons-inv (record { start = a; text = signs Out (take n (drop a l)) }) t (termsFrom (a + n) true (signs Out (drop (a + n) l))) ts (sym (terms-some l at a n (sym p)) ∙ e) in
+        let c = cons-eq-cons .0 (sym (terms-some l at a n (sym p)) ∙ e) in
         let z : suc (length ts) + k ≡ suc (length ts + k) = omega arith in
         ap (λ (i : ℕ). going i l at) z
         ∙ one p
@@ -458,10 +452,10 @@ order-from l at (t ∷ ts) h e = go (termAt l at) refl (λ i. order-from l i ts)
   where
     go : (f : Found) → termAt l at ≡ f → ((i : ℕ) → i ≤ length l → termsFrom i true (signs Out (drop i l)) ≡ ts → inOrder i (length l) ts ≡ true)
         → inOrder at (length l) (t ∷ ts) ≡ true
-    go found.None p ih = no-cons _ _ (sym (sym (terms-none l at (sym p)) ∙ e))
+    go found.None p ih = absurd (cons≢nil (sym (sym (terms-none l at (sym p)) ∙ e)))
     go (found.Term a n) p ih =
         let w = term-within l at a n (sym p) in
-        let c = cons-inv (record { start = a; text = signs Out (take n (drop a l)) }) t (termsFrom (a + n) true (signs Out (drop (a + n) l))) ts (sym (terms-some l at a n (sym p)) ∙ e) in
+        let c = cons-eq-cons .0 (sym (terms-some l at a n (sym p)) ∙ e) in
         let s : sizeOf t ≡ n = ap sizeOf (sym (c .0)) ∙ slice-size l a n (w .fits) in
         let b : t .start ≡ a = ap (λ (x : Term). x .start) (sym (c .0)) in
         simp (b, s, le-leb at a (w .from), lt-ltb 0 n (w .some), ih (a + n) (w .fits) (c .1))

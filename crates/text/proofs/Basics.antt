@@ -2,9 +2,8 @@
 use Prim.Native.Nat.{ℕ, zero, suc}
 use mathlib.Core.Path.{_≡_, refl, sym, ap, _∙_}
 use mathlib.Core.List.{List, [], _∷_, _++_, map, append-nil}
-use mathlib.Core.Bool.{Bool, true, false, cond, not, _&&_, _||_, or-assoc, or-true}
-use mathlib.Core.Option.{Option, none, some}
-use native.Mathlib.Omega.{arith}
+use mathlib.Core.Bool.{Bool, true, false, cond, not, _&&_, _||_, or-assoc, or-true, true≢false}
+use mathlib.Core.Option.{Option, none, some, Option·some-injective, Option·none-ne-some}
 use lib.ListN.{length, take, drop}
 use lib.Dec.{eqb}
 use borrow.Author.Tests.{eqb-true, eq-eqb, not-true}
@@ -51,7 +50,10 @@ either true f g = f refl
 either false f g = g refl
 
 pub no-case : {P : Type 0} → true ≡ false → P
-no-case e = absurd (let z : _≡_ {A = ℕ} 0 1 = cc in omega arith)
+no-case e = absurd (true≢false e)
+
+pub none-some : {P B : Type 0} (b : B) → none ≡ some b → P
+none-some b e = absurd (Option·none-ne-some b e)
 
 -- what an answer was made from
 pub record Given {A B : Type 0} (o : Option A) (f : A → Option B) (b : B) : Type 0 where
@@ -60,27 +62,21 @@ pub record Given {A B : Type 0} (o : Option A) (f : A → Option B) (b : B) : Ty
   pub gives : f what ≡ some b
 
 pub given-some : {A B : Type 0} (o : Option A) (f : A → Option B) (b : B) → given o f ≡ some b → Given o f b
-given-some none f b e = let z : _≡_ {A = ℕ} 0 1 = cc in absurd (omega arith)
+given-some none f b e = none-some b e
 given-some (some a) f b e = record { what = a; is = refl; gives = e }
 
 pub cond-some : {B : Type 0} (x : Bool) (o : Option B) (b : B) → cond x o none ≡ some b → (x ≡ true) × (o ≡ some b)
 cond-some true o b e = (refl, e)
-cond-some false o b e = let z : _≡_ {A = ℕ} 0 1 = cc in absurd (omega arith)
-
-pub none-some : {P B : Type 0} (b : B) → none ≡ some b → P
-none-some b e = absurd (let z : _≡_ {A = ℕ} 0 1 = cc in omega arith)
-
-pub same-some : {B : Type 0} (a b : B) → some a ≡ some b → a ≡ b
-same-some a b e = cc
+cond-some false o b e = none-some b e
 
 -- what is known of an answer, by what it was made from
 pub some-from : {B : Type 0} (P : B → Type 0) (x : Bool) (b : B) → (x ≡ true → P b) → (c : B) → cond x (some b) none ≡ some c → P c
-some-from P true b f c e = rw (sym (same-some b c e)) (f refl)
+some-from P true b f c e = rw (sym (Option·some-injective b c e)) (f refl)
 some-from P false b f c e = none-some c e
 
 pub given-from : {A B : Type 0} (P : B → Type 0) (o : Option A) (f : A → B) → ((a : A) → o ≡ some a → P (f a)) → (c : B) → given o (λ a. some (f a)) ≡ some c → P c
 given-from P none f g c e = none-some c e
-given-from P (some a) f g c e = rw (sym (same-some (f a) c e)) (g a refl)
+given-from P (some a) f g c e = rw (sym (Option·some-injective (f a) c e)) (g a refl)
 
 pub same-eq : (a b : List ℕ) → sameBytes a b ≡ true → a ≡ b
 unfolding sameBytes

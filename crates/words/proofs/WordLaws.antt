@@ -3,7 +3,7 @@ use Prim.Native.Nat.{ℕ, zero, suc, _+_, _-_, _<_, _≤_}
 use mathlib.Core.Path.{_≡_, refl, sym, ap, _∙_}
 use mathlib.Core.List.{List, [], _∷_}
 use mathlib.Core.Bool.{Bool, true, false, cond, not, _&&_, _||_}
-use mathlib.Core.Option.{Option, none, some}
+use mathlib.Core.Option.{Option, none, some, Option·some-injective}
 use mathlib.Core.Logic.{_⊎_, inl, inr, ⊎-elim}
 use native.Mathlib.Omega.{arith}
 use lib.ListN.{length, getD}
@@ -11,7 +11,7 @@ use lib.Dec.{eqb, leb}
 use borrow.Author.Tests.{ne-eqb, eqb-true, leb-true, leb-false, not-true}
 use Rattle.text.specs.Bytes.{bytes, sameBytes, oneOf, isWord}
 use Rattle.text.specs.Lists.{isNil, allOf}
-use Rattle.text.proofs.Basics.{and-l, and-r, and-in, neg-in, no-case, none-some, same-some, same-eq, same-refl, either, or-case}
+use Rattle.text.proofs.Basics.{and-l, and-r, and-in, neg-in, no-case, none-some, same-eq, same-refl, either, or-case}
 use Rattle.words.specs.declared.Kind.{Kind}
 use Rattle.words.specs.declared.Kind.the-variants.{Mere, Keep, Level, Place, Entries}
 use Rattle.words.specs.Words.{verbNames, longNames, shortNames, names, find, or, verbOf, optionOf, verbName, optionName, kinds, kindOf}
@@ -55,7 +55,7 @@ find-name k [] s j e = none-some j e
 find-name k (n ∷ ns) s j e =
     either (not (isNil n) && sameBytes s n)
     (λ t.
-    let q = same-some k j (rw t at e) in
+    let q = Option·some-injective k j (rw t at e) in
     let z : j - k ≡ 0 = omega arith in
     let p = same-eq s n (and-r (not (isNil n)) (sameBytes s n) t) in
     (omega arith, omega arith, rw z p, ap isNil p ∙ not-true (isNil n) (and-l (not (isNil n)) (sameBytes s n) t)))
@@ -161,7 +161,7 @@ verb-only-name s k e = let f = number-name verbNames s k e in (f .0, omega (arit
 
 -- two numbers have two names
 pub verb-names-differ : (j k : ℕ) → 1 ≤ j → j ≤ 13 → 1 ≤ k → k ≤ 13 → verbName j ≡ verbName k → j ≡ k
-verb-names-differ j k a b c d e = same-some j k (sym (verb-again j a b) ∙ ap verbOf e ∙ verb-again k c d)
+verb-names-differ j k a b c d e = Option·some-injective j k (sym (verb-again j a b) ∙ ap verbOf e ∙ verb-again k c d)
 
 -- the two forms joined: the strings recognise a text as a number exactly where it is the name in that number's row of the table
 pub verb-forms : (t : List ℕ) (k : ℕ) → 1 ≤ k → k ≤ 13
@@ -237,7 +237,7 @@ option-by-name s k h = ⊎-elim (λ e. long e) (λ e. ap optionOf e ∙ option-s
 
 -- no text names two options
 pub option-one : (s : List ℕ) (j k : ℕ) → isNil s ≡ false → (s ≡ optionName j) ⊎ (s ≡ shortName j) → (s ≡ optionName k) ⊎ (s ≡ shortName k) → j ≡ k
-option-one s j k h p q = same-some j k (sym (option-by-name s j h p) ∙ option-by-name s k h q)
+option-one s j k h p q = Option·some-injective j k (sym (option-by-name s j h p) ∙ option-by-name s k h q)
 
 -- ---- arguments
 
