@@ -1,8 +1,8 @@
 -- What the loops and the tests of the check keep: the answer for the rest is the answer for the whole. Assumes nothing.
 use mathlib.Core.Path.{_≡_, refl, ap, sym, _∙_}
 use Prim.Native.Nat.{ℕ, zero, suc, _+_, _-_, _*_, _/_, _<_, _≤_, min}
-use mathlib.Core.List.{List, [], _∷_, _++_}
-use mathlib.Core.Bool.{Bool, true, false, _||_, not, cond, and-false, or-false}
+use mathlib.Core.List.{List, [], _∷_}
+use mathlib.Core.Bool.{Bool, true, false, _||_, not, cond, and-false}
 use native.Mathlib.Omega.{arith}
 use borrow.Author.Tests.{eq-eqb, ne-eqb, lt-ltb, le-ltb, not-false}
 use lib.Dec.{eqb}
@@ -10,11 +10,10 @@ use lib.ListN.{length, getD, take, drop, length-drop, length-take}
 use lib.Seq.{drop-drop, length-take-le}
 use Rattle.text.specs.Bytes.{sameBytes, isLetter}
 use Rattle.text.specs.Lists.{allOf, anyOf, runLen}
-use Rattle.text.proofs.Basics.{or-in-l, or-in-r, either, any-over}
+use Rattle.text.proofs.Basics.{or-in-l, or-in-r, either}
 use Rattle.text.proofs.Scans.{all-on, all-stops, all-past-end, same-length, all-run, run-all}
 use Rattle.text.proofs.Slices.{part-from, length-from, part-between}
-use Rattle.tree.specs.Tree.{parentIn, tagLenIn, tagIn, paddingIn, numberIn, isZero, sameNode, twinIn, twin, holds, badRecord, records, checkFrom, checkTree}
-use Rattle.tree.specs.Marks.{badForm}
+use Rattle.tree.specs.Tree.{parentIn, tagLenIn, tagIn, paddingIn, numberIn, isZero, sameNode, twinIn, twin, holds, badForm, badRecord, records, checkFrom, checkTree}
 use Rattle.tree.specs.declared.Checked.the-variants.{Good, Bad}
 
 -- ---- zeros
@@ -177,19 +176,10 @@ module _ (r : List ℕ) (k : ℕ) where
 
 -- ---- the check
 
--- a record is bad by its own bytes or by a twin: the twin is the last of the tests
-any-last : (l : List Bool) (x : Bool) → anyOf holds (l ++ (x ∷ [])) ≡ (anyOf holds l || x)
-unfolding anyOf
-any-last l x = any-over holds l (x ∷ []) ∙ ap (λ (b : Bool). anyOf holds l || b) (or-false x)
-
-bad-by : (e r : List ℕ) (k : ℕ) → badRecord e r k ≡ (badForm r k || twin e r)
-unfolding badRecord badForm
-bad-by e r k = any-last _ (twin e r)
-
 module _ (t : List ℕ) (k p : ℕ) (x : Bool) (h : p < length t) (e : p ≡ 22 * k) (l : k ≤ records t) (inv : checkFrom (records t - k) t k ≡ checkTree t)
     (form : x ≡ badForm (take (length t - p) (drop p t)) k) where
   check-step : checkTree t ≡ cond (x || twin (take p t) (take (length t - p) (drop p t))) (Bad p) (checkFrom (records t - (k + 1)) t (k + 1))
-  unfolding checkFrom
+  unfolding checkFrom badRecord
   check-step =
       let m : records t - k ≡ suc (records t - (k + 1)) = omega arith in
       let rest = checkFrom (records t - (k + 1)) t (k + 1) in
@@ -198,7 +188,7 @@ module _ (t : List ℕ) (k p : ℕ) (x : Bool) (h : p < length t) (e : p ≡ 22 
       ∙ ap (λ (q : ℕ). cond (badRecord (take q t) (drop q t) k) (Bad q) rest) (sym e)
       ∙ ap (λ (r : List ℕ). cond (badRecord (take p t) r k) (Bad p) rest) (sym (part-from t p))
       ∙ ap (λ (b : Bool). cond b (Bad p) rest)
-      (bad-by (take p t) (take (length t - p) (drop p t)) k ∙ ap (λ (b : Bool). b || twin (take p t) (take (length t - p) (drop p t))) (sym form))
+      (ap (λ (b : Bool). b || twin (take p t) (take (length t - p) (drop p t))) (sym form))
 
   pub stop-form : x ≡ true → Bad p ≡ checkTree t
   stop-form y = sym (check-step ∙ simp y)

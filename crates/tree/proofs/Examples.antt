@@ -14,7 +14,7 @@ use Rattle.forms.specs.Targets.{tagLen, isNumbered, isStarred, isSegment, areSe
 use Rattle.tree.specs.declared.Checked.the-variants.{Good, Bad}
 use Rattle.tree.specs.declared.Resolved.{Resolved}
 use Rattle.tree.specs.declared.Resolved.the-variants as resolved
-use Rattle.tree.specs.Tree.{tagIn, paddingIn, sameNode, twinIn, twin, badRecord, checkFrom, checkTree, recordAt}
+use Rattle.tree.specs.Tree.{tagIn, paddingIn, sameNode, twinIn, twin, badForm, badRecord, checkFrom, checkTree, recordAt}
 use Rattle.tree.specs.Path.{segment, pathUp, fullPath, pathAnswer}
 use Rattle.tree.specs.Resolve.{nodesFrom, isTagged, isNamed, taggedUnder, namedUnder, along, foundOf, resolveOf, resolveList}
 
@@ -50,10 +50,10 @@ resolving : map addressed texts
     ∷ (resolved.Session, 9 ∷ 9 ∷ [])
     ∷ (resolved.Refused 12 0, 9 ∷ 9 ∷ [])
     ∷ []
-unfolding texts addressed small node bytes sameBytes allOf anyOf parts runLen valueFrom isDecimal wrote filled sessionName tagLen isNumbered isStarred isSegment areSegments segmentOf segmentsOf pathOf targetOf tagIn paddingIn sameNode twinIn twin badRecord checkFrom checkTree recordAt nodesFrom isTagged isNamed taggedUnder namedUnder along foundOf resolveOf resolveList
+unfolding texts addressed small node bytes sameBytes allOf anyOf parts runLen valueFrom isDecimal wrote filled sessionName tagLen isNumbered isStarred isSegment areSegments segmentOf segmentsOf pathOf targetOf tagIn paddingIn sameNode twinIn twin badForm badRecord checkFrom checkTree recordAt nodesFrom isTagged isNamed taggedUnder namedUnder along foundOf resolveOf resolveList
 resolving = refl
 
 paths : (checkTree small ≡ Good) × (checkTree (small ++ node 1 "cpu" 4) ≡ Bad 132) × (checkTree (node 1 "cpu" 4) ≡ Bad 0) × (fullPath small 0 ≡ bytes "/") × (fullPath small 4 ≡ bytes "/system1/fan65535")
     × (pathAnswer 16 small 4 ≡ answer.Refused 19 0) × (pathAnswer 17 small 4 ≡ answer.Wrote 17) × (pathAnswer 18 small 7 ≡ answer.Refused 16 0)
-unfolding small node bytes sameBytes allOf anyOf width digits fitted tagIn paddingIn sameNode twinIn twin badRecord checkFrom checkTree recordAt segment pathUp fullPath pathAnswer
+unfolding small node bytes sameBytes allOf anyOf width digits fitted tagIn paddingIn sameNode twinIn twin badForm badRecord checkFrom checkTree recordAt segment pathUp fullPath pathAnswer
 paths = (refl, refl, refl, refl, refl, refl, refl, refl)

@@ -9,8 +9,8 @@ use lib.ListN.{length, getD, take, drop, length-drop}
 use lib.Seq.{getD-drop}
 use Rattle.text.specs.Bytes.{isLetter}
 use Rattle.text.specs.Lists.{allOf, anyOf}
-use Rattle.text.proofs.Basics.{no-case, either}
-use Rattle.tree.specs.Tree.{parentIn, tagLenIn, twin, holds, badRecord, records, checkFrom, checkTree, recordAt, parent, tag, number}
+use Rattle.text.proofs.Basics.{or-l, or-r, no-case, either}
+use Rattle.tree.specs.Tree.{parentIn, tagLenIn, twin, holds, badForm, badRecord, records, checkFrom, checkTree, recordAt, parent, tag, number}
 use Rattle.tree.specs.declared.Checked.{Checked}
 use Rattle.tree.specs.declared.Checked.the-variants.{Good, Bad}
 use Rattle.tree.proofs.CheckLaws.{any-nth}
@@ -48,9 +48,18 @@ pub record GoodNode (t : List ℕ) (k : ℕ) : Type 0 where
   pub counted : number t k ≡ 0 → ⊥
   pub alone : twin (take (22 * (k - 1)) t) (recordAt t k) ≡ false
 
+own-good : (e r : List ℕ) (k : ℕ) → badRecord e r k ≡ false → badForm r k ≡ false
+unfolding badRecord
+own-good e r k h = or-l (badForm r k) (twin e r) h
+
+no-twin : (e r : List ℕ) (k : ℕ) → badRecord e r k ≡ false → twin e r ≡ false
+unfolding badRecord
+no-twin e r k h = or-r (badForm r k) (twin e r) h
+
 from-record : (t : List ℕ) (k : ℕ) → 1 ≤ k → badRecord (take (22 * (k - 1)) t) (recordAt t k) (k - 1) ≡ false → GoodNode t k
-unfolding badRecord recordAt
-from-record t k one h =
+unfolding badForm recordAt
+from-record t k one bad =
+    let h = own-good (take (22 * (k - 1)) t) (drop (22 * (k - 1)) t) (k - 1) bad in
     let w : 22 ≤ length (drop (22 * (k - 1)) t) = ltb-false _ _ (none-at _ 0 h) in
     let f : k - 1 ≤ 511 = ltb-false _ _ (none-at _ 2 h) in
     let l : parentIn (drop (22 * (k - 1)) t) ≤ k - 1 = ltb-false _ _ (none-at _ 3 h) in
@@ -62,7 +71,7 @@ from-record t k one h =
       short = ltb-false _ _ (none-at _ 5 h);
       letters = not-false _ (none-at _ 6 h);
       counted = eqb-false _ _ (none-at _ 8 h);
-      alone = none-at _ 9 h;
+      alone = no-twin (take (22 * (k - 1)) t) (drop (22 * (k - 1)) t) (k - 1) bad;
     }
 
 module _ (t : List ℕ) (good : checkTree t ≡ Good) where

@@ -12,8 +12,8 @@ use lib.ListN.{length, getD, take, drop, set, length-drop, length-set}
 use lib.Seq.{drop-drop, length-take-le, getD-take, getD-set-same}
 use Rattle.text.proofs.Basics.{and-l, and-r, either, no-case, same-eq}
 use Rattle.text.proofs.Slices.{drop-take, part-from, getD-part}
-use Rattle.tree.specs.Tree.{parentIn, tagLenIn, tagIn, numberIn, sameNode, twinIn, twin}
-use Rattle.tree.specs.Marks.{badForm, mixOf, markOf, otherMarkOf, Marked}
+use Rattle.tree.specs.Tree.{parentIn, tagLenIn, tagIn, numberIn, sameNode, twinIn, twin, badForm}
+use Rattle.tree.specs.Marks.{mixOf, markOf, otherMarkOf, Marked}
 use Rattle.tree.proofs.CheckLaws.{lengths}
 use Rattle.tree.proofs.GoodLaws.{none-at}
 

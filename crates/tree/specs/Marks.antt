@@ -2,28 +2,10 @@
 -- missing has no twin before it, and is compared with none. proofs/MarkLaws has it that this is the twin test of specs/Tree.
 use Prim.Native.Nat.{ℕ, _+_, _*_, _/_, _%_, _<_}
 use mathlib.Core.Path.{_≡_}
-use mathlib.Core.List.{List, [], _∷_}
-use mathlib.Core.Bool.{Bool, true, false, not}
+use mathlib.Core.List.{List}
+use mathlib.Core.Bool.{Bool, true, false}
 use lib.ListN.{length, getD, drop}
-use lib.Dec.{ltb, eqb}
-use Rattle.text.specs.Bytes.{isLetter}
-use Rattle.text.specs.Lists.{allOf, anyOf}
-use Rattle.tree.specs.Tree.{be16, kindIn, parentIn, tagLenIn, tagIn, paddingIn, numberIn, isZero, holds}
-
--- the tests of badRecord that ask for the record alone
-unfoldable pub badForm : List ℕ → ℕ → Bool
-badForm r k =
-    anyOf holds
-    (ltb (length r) 22
-    ∷ not (eqb (kindIn r) 16)
-    ∷ ltb 511 k
-    ∷ ltb k (parentIn r)
-    ∷ ltb (tagLenIn r) 1
-    ∷ ltb 16 (tagLenIn r)
-    ∷ not (allOf isLetter (tagIn r))
-    ∷ not (allOf isZero (paddingIn r))
-    ∷ eqb (numberIn r) 0
-    ∷ [])
+use Rattle.tree.specs.Tree.{be16, parentIn, tagLenIn, numberIn}
 
 -- a node's parent, its number, its tag's length, and its tag's first and last letter in one number; odd factors spread it over the table
 abbrev pub mixed : ℕ → ℕ → ℕ → ℕ → ℕ

@@ -54,10 +54,9 @@ abbrev pub holds : Bool → Bool
 holds b = b
 
 -- A record is bad if cut, of another kind, beyond the 512th, its parent is not below its own number, tag length isn't 1 to 16, a tag byte is no letter,
--- padding isn't zero, number is 0, or an earlier record has the same parent, tag and number. The record that r begins with has number k + 1; e has the
--- records before it.
-unfoldable pub badRecord : List ℕ → List ℕ → ℕ → Bool
-badRecord e r k =
+-- padding isn't zero, number is 0,
+unfoldable pub badForm : List ℕ → ℕ → Bool
+badForm r k =
     anyOf holds
     (ltb (length r) 22
     ∷ not (eqb (kindIn r) 16)
@@ -68,8 +67,11 @@ badRecord e r k =
     ∷ not (allOf isLetter (tagIn r))
     ∷ not (allOf isZero (paddingIn r))
     ∷ eqb (numberIn r) 0
-    ∷ twin e r
     ∷ [])
+
+-- or an earlier record has the same parent, tag and number. The record that r begins with has number k + 1; e has the records before it.
+unfoldable pub badRecord : List ℕ → List ℕ → ℕ → Bool
+badRecord e r k = badForm r k || twin e r
 
 -- ---- the check
 
