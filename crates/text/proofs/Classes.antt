@@ -3,10 +3,10 @@ use Prim.Native.Nat.{ℕ, _<_, _≤_}
 use mathlib.Core.Path.{_≡_, sym, ap, _∙_}
 use mathlib.Core.Bool.{Bool, true, false, not, _&&_, _||_, and-false}
 use native.Mathlib.Omega.{arith}
-use borrow.Author.Tests.{ne-eqb, eqb-true, le-leb, lt-leb, leb-true}
+use borrow.Author.Tests.{ne-eqb, le-leb, lt-leb, leb-true}
 use lib.Dec.{eqb, leb}
-use Rattle.text.specs.Bytes.{isLetter, isDigit, isWord, printable}
-use Rattle.text.proofs.Basics.{and-l, and-r, or-in-l, or-in-r, or-case, no-case}
+use Rattle.text.specs.Bytes.{isLetter, isDigit, isWord}
+use Rattle.text.proofs.Tests.{and-l, and-r, or-in-l, or-case, no-case}
 
 -- a byte between two bounds, and outside them
 module _ (lo hi b : ℕ) where
@@ -26,7 +26,7 @@ module _ (lo hi b : ℕ) where
   above h = simp (lt-leb b hi h) (and-false (leb lo b))
 
 module _ (b : ℕ) where
-  -- the bounds of a letter, a digit and a word byte
+  -- the bounds of a letter and of a digit
   pub letter-bounds : isLetter b ≡ true → (65 ≤ b) × (b ≤ 122)
   letter-bounds e =
       or-case (leb 65 b && leb b 90) (leb 97 b && leb b 122) e (λ p. let l = within-low 65 90 b p in let h = within-high 65 90 b p in omega arith)
@@ -35,26 +35,10 @@ module _ (b : ℕ) where
   pub digit-bounds : isDigit b ≡ true → (48 ≤ b) × (b ≤ 57)
   digit-bounds e = (within-low 48 57 b e, within-high 48 57 b e)
 
-  pub word-bounds : isWord b ≡ true → (48 ≤ b) × (b ≤ 122)
-  unfolding isWord
-  word-bounds e =
-      or-case (isLetter b) (isDigit b || eqb b 95) e (λ p. let h = letter-bounds p in omega arith)
-      (λ q. or-case (isDigit b) (eqb b 95) q (λ p. let h = digit-bounds p in omega arith) (λ p. let h = eqb-true b 95 p in omega arith))
-
-  -- letters and digits are word bytes, and word bytes are printable
+  -- letters are word bytes
   pub letter-word : isLetter b ≡ true → isWord b ≡ true
   unfolding isWord
   letter-word e = or-in-l (isLetter b) (isDigit b || eqb b 95) e
-
-  pub digit-word : isDigit b ≡ true → isWord b ≡ true
-  unfolding isWord
-  digit-word e = or-in-r (isLetter b) (isDigit b || eqb b 95) (or-in-l (isDigit b) (eqb b 95) e)
-
-  pub word-printable : isWord b ≡ true → printable b ≡ true
-  word-printable e = let h = word-bounds e in inside 32 126 b (omega arith) (omega arith)
-
-  pub digit-printable : isDigit b ≡ true → printable b ≡ true
-  digit-printable e = word-printable (digit-word e)
 
   -- no letter is a digit
   pub digit-no-letter : isDigit b ≡ true → isLetter b ≡ false

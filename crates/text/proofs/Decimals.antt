@@ -16,7 +16,7 @@ use Rattle.text.specs.declared.Number.the-variants.{Is, No}
 use Rattle.text.specs.Lists.{allOf, isNil}
 use Rattle.text.specs.Bytes.{isDigit}
 use Rattle.text.specs.Decimal.{valueFrom, isDecimal, decimalOf, width, fiveDigits, digits}
-use Rattle.text.proofs.Basics.{and-l, and-r, and-in, no-case}
+use Rattle.text.proofs.Tests.{and-l, and-r, and-in, no-case}
 use Rattle.text.proofs.Classes.{digit-bounds, inside}
 use Rattle.text.proofs.Scans.{drop-step}
 
@@ -86,6 +86,11 @@ width-between n =
 pub length-digits : (n : ℕ) → length (digits n) ≡ width n
 unfolding digits
 length-digits n = length-drop (5 - width n) (fiveDigits n) ∙ (let w : (1 ≤ width n) × (width n ≤ 5) = width-between n in omega arith)
+
+-- five digits, each for its power of ten
+pub five-digits : (n a b c d e : ℕ) → a ≡ 48 + n / 10000 % 10 → b ≡ 48 + n / 1000 % 10 → c ≡ 48 + n / 100 % 10 → d ≡ 48 + n / 10 % 10 → e ≡ 48 + n % 10
+    → a ∷ b ∷ c ∷ d ∷ e ∷ [] ≡ fiveDigits n
+five-digits n a b c d e p q r s t = rw (p, q, r, s, t)
 
 -- the part of the five digits that is written
 pub digits-part : (n w : ℕ) (l : List ℕ) → w ≡ width n → l ≡ fiveDigits n → take (5 - (5 - w)) (drop (5 - w) l) ≡ digits n
@@ -190,12 +195,6 @@ made-decimal most (b ∷ s) d =
 pub value-most : (most : ℕ) (s : List ℕ) → isDecimal most s ≡ true → valueFrom 0 s ≤ most
 value-most most s e = (decimal-made most s e) .small
 
--- a decimal under a limit is one under each limit that its value keeps
-pub decimal-limit : (most other : ℕ) (s : List ℕ) → isDecimal most s ≡ true → valueFrom 0 s ≤ other → isDecimal other s ≡ true
-decimal-limit most other s e h =
-    let d = decimal-made most s e in
-    made-decimal other s (record { all = d .all; some = d .some; first = d .first; small = h })
-
 -- what is written is a decimal
 pub digits-decimal : (most n : ℕ) → n < 100000 → n ≤ most → isDecimal most (digits n) ≡ true
 digits-decimal most n h k =
@@ -261,14 +260,6 @@ decimal-digits most s e h =
     decimal-same most s (digits (valueFrom 0 s)) e (digits-decimal most (valueFrom 0 s) h (value-most most s e)) (sym (digits-value (valueFrom 0 s) h))
 
 -- ---- what a number that was read says
-
-pub decimal-is : (most : ℕ) (s : List ℕ) → isDecimal most s ≡ true → decimalOf most s ≡ Is (valueFrom 0 s)
-unfolding decimalOf
-decimal-is most s e = rw e
-
-pub decimal-no : (most : ℕ) (s : List ℕ) → isDecimal most s ≡ false → decimalOf most s ≡ No
-unfolding decimalOf
-decimal-no most s e = rw e
 
 -- b says whether there is a number, and w which
 pub told-is : (b : Bool) (v w : ℕ) → Is v ≡ cond b (Is w) No → (b ≡ true) × (v ≡ w)

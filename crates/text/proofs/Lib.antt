@@ -1,7 +1,12 @@
-pub mod Basics
+pub mod Tests
+pub mod Options
+pub mod SameTexts
+pub mod AllAny
+pub mod Parts
 pub mod Classes
 pub mod Scans
 pub mod Slices
 pub mod Writes
 pub mod Decimals
 pub mod Only
+pub mod Examples

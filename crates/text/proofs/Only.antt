@@ -42,9 +42,6 @@ use Rattle.text.proofs.put.Reads as put-reads
 use Rattle.text.proofs.copy as copy-fn
 use Rattle.text.proofs.copy.Kinds as copy-kinds
 use Rattle.text.proofs.copy.Reads as copy-reads
-use Rattle.text.proofs.put_two as put-two-fn
-use Rattle.text.proofs.put_two.Kinds as put-two-kinds
-use Rattle.text.proofs.put_two.Reads as put-two-reads
 use Rattle.text.proofs.width as width-fn
 use Rattle.text.proofs.width.Kinds as width-kinds
 use Rattle.text.proofs.width.Reads as width-reads
@@ -147,14 +144,6 @@ pub copy-only :
     → copy-reads.Post κs a r s → copy-reads.Post κs a r′ s′
     → now (s .0) ≡ now (s′ .0)
 copy-only κs a r r′ s s′ p q = p ∙ sym q
-
-pub put-two-only :
-    (κs : Lifetimes.Lfts 1) (a : World.ArgsD put-two-fn.signature κs)
-    (r r′ : World.ResD put-two-fn.signature κs)
-    (s s′ : Clauses.AtExit (Kinds.endedOf 1 put-two-kinds.ps put-two-kinds.r) κs)
-    → put-two-reads.Post κs a r s → put-two-reads.Post κs a r′ s′
-    → now (s .0) ≡ now (s′ .0)
-put-two-only κs a r r′ s s′ p q = p ∙ sym q
 
 pub width-only :
     (κs : Lifetimes.Lfts 0) (a : World.ArgsD width-fn.signature κs)

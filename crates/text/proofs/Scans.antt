@@ -10,10 +10,10 @@ use lib.ListN.{length, getD, take, drop, drop-of-length-le}
 use lib.Seq.{drop-cons}
 use lib.Dec.{eqb}
 use borrow.Author.Tests.{eq-eqb, ne-eqb}
-use Rattle.text.specs.Lists.{allOf, anyOf, runLen, walk}
+use Rattle.text.specs.Lists.{allOf, runLen, walk}
 use Rattle.text.specs.Bytes.{sameBytes}
 use Rattle.text.proofs.Slices.{part-between, length-between, part-rest}
-use Rattle.text.proofs.Basics.{and-l, and-r}
+use Rattle.text.proofs.Tests.{and-l, and-r}
 
 -- a list from a place on, for any default
 pub step-of : {A : Type 0} (l : List A) (i : ℕ) (d : A) → i < length l → drop i l ≡ getD l i d ∷ drop (i + 1) l
@@ -119,10 +119,6 @@ module _ {S : Type 0} (f : S → ℕ → S) (l : List ℕ) (i : ℕ) (v : S) whe
   unfolding walk
   walk-on w h e = rw (e, drop-step l i h)
 
-  pub walk-past : length l ≤ i → walk f v (drop i l) ≡ v
-  unfolding walk
-  walk-past h = rw (drop-of-length-le l h)
-
 -- a scan that counts bytes until it stops counts no more than there are: v is its state, len what it counts
 pub scan-within : {S : Type 0} (stop : S → ℕ → Bool) (next : S → ℕ → S) (len : S → List ℕ → ℕ) → ((v : S) → len v [] ≡ 0)
     → ((v : S) (b : ℕ) (s : List ℕ) → len v (b ∷ s) ≡ cond (stop v b) 0 (suc (len (next v b) s))) → (v : S) (s : List ℕ) → len v s ≤ length s
@@ -143,22 +139,10 @@ module _ {A : Type 0} (f : A → Bool) (l : List A) (i : ℕ) (d : A) where
   unfolding allOf
   all-stops h e = rw (step-of l i d h, e)
 
-  pub any-on : i < length l → f (getD l i d) ≡ false → anyOf f (drop i l) ≡ anyOf f (drop (i + 1) l)
-  unfolding anyOf
-  any-on h e = rw (step-of l i d h, e)
-
-  pub any-stops : i < length l → f (getD l i d) ≡ true → anyOf f (drop i l) ≡ true
-  unfolding anyOf
-  any-stops h e = rw (step-of l i d h, e)
-
 module _ {A : Type 0} (f : A → Bool) (l : List A) (i : ℕ) (h : length l ≤ i) where
   pub all-past-end : allOf f (drop i l) ≡ true
   unfolding allOf
   all-past-end = rw (drop-of-length-le l h)
-
-  pub any-past-end : anyOf f (drop i l) ≡ false
-  unfolding anyOf
-  any-past-end = rw (drop-of-length-le l h)
 
 -- a test of all that goes on to the end: a is what it has found so far, p what it finds at i
 pub all-kept : (f : ℕ → Bool) (l : List ℕ) (i : ℕ) (a p : Bool) → i < length l → p ≡ f (getD l i 0) → (a && p) && allOf f (drop (i + 1) l) ≡ a && allOf f (drop i l)

@@ -4,7 +4,7 @@ use mathlib.Core.Path.{_≡_, sym, ap, _∙_}
 use mathlib.Core.List.{List, [], _∷_, _++_}
 use native.Mathlib.Omega.{arith}
 use lib.ListN.{length, getD, take, drop, length-drop, take-append-drop}
-use lib.Seq.{take-all, length-take-le, take-nil, take-take, drop-drop, getD-take, getD-drop}
+use lib.Seq.{take-all, length-take-le, take-nil, drop-drop, getD-take, getD-drop}
 
 -- what is left of the front of a list
 pub drop-take : {A : Type 0} (a n : ℕ) (l : List A) → drop a (take n l) ≡ take (n - a) (drop a l)
@@ -38,10 +38,3 @@ module _ {A : Type 0} (l : List A) where
   -- what stands at a place of a part
   pub getD-part : (a n i : ℕ) (d : A) → i < n → getD (take n (drop a l)) i d ≡ getD l (a + i) d
   getD-part a n i d h = getD-take n (drop a l) i d h ∙ getD-drop a l i d
-
-  -- a part of a part
-  pub part-part : (a n b m : ℕ) → b + m ≤ n → take m (drop b (take n (drop a l))) ≡ take m (drop (a + b) l)
-  part-part a n b m h =
-      ap (λ (r : List A). take m r) (drop-take b n (drop a l))
-      ∙ take-take m (n - b) (drop b (drop a l)) (omega arith)
-      ∙ ap (λ (r : List A). take m r) (drop-drop b a l)

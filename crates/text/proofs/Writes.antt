@@ -6,10 +6,10 @@ use mathlib.Core.Bool.{Bool, true, false}
 use native.Mathlib.Nat.{add-zero}
 use native.Mathlib.Numerals.{add-one}
 use native.Mathlib.Omega.{arith}
-use borrow.Author.Tests.{le-leb, lt-leb, leb-true, leb-false}
+use borrow.Author.Tests.{le-leb, lt-leb}
 use lib.Dec.{leb}
 use lib.ListN.{length, getD, take, drop, set, length-set}
-use lib.Seq.{sets, length-sets, sets-eq, set-out, take-nil, take-suc, take-at, length-take-le}
+use lib.Seq.{sets, sets-eq, set-out, take-nil, take-suc, take-at, length-take-le}
 use Rattle.text.specs.declared.Answer.the-variants.{Wrote, Refused}
 use Rattle.text.specs.Room.{wrote, fitted, filled}
 
@@ -26,19 +26,11 @@ module _ {A : Type 0} where
   sets-past [] l i h = refl
   sets-past (x ∷ xs) l i h = ap (λ (m : List A). sets m (suc i) xs) (set-out l i x h) ∙ sets-past xs l (suc i) (omega arith)
 
-  -- nothing is stored in no room
-  pub sets-nil : (xs : List A) (i : ℕ) → sets [] i xs ≡ []
-  sets-nil xs i = sets-past xs [] i (omega arith)
-
   -- of a text only what has room is stored
   pub sets-cut : (xs l : List A) (i n : ℕ) → min (length l - i) (length xs) ≤ n → sets l i (take n xs) ≡ sets l i xs
   sets-cut [] l i n h = ap (λ (m : List A). sets l i m) (take-nil n)
   sets-cut (x ∷ xs) l i zero h = sym (sets-past (x ∷ xs) l i (omega arith))
   sets-cut (x ∷ xs) l i (suc n) h = sets-cut xs (set l i x) (suc i) n (omega (arith, length-set l i x))
-
-  -- the same at the room that is left
-  pub sets-room : (l : List A) (i : ℕ) (xs : List A) → sets l i xs ≡ sets l i (take (length l - i) xs)
-  sets-room l i xs = sym (sets-cut xs l i (length l - i) (omega arith))
 
   -- what is left to write, where b holds t from the place `at` on
   pub sets-rest : (o t b : List A) (at w : ℕ) → b ≡ sets o at t → w ≡ at + length t → (s : List A) → sets b w s ≡ sets o at (t ++ s)
@@ -70,10 +62,6 @@ sets-fill room t h = let e : 0 + length t ≡ length t = omega arith in sets-eq 
 pub held-is : (room held s : List ℕ) (n : ℕ) → held ≡ sets room 0 s → n ≡ length s → length s ≤ length room → take n held ≡ s
 held-is room held s n e p h = ap (take n) (e ∙ sets-fill room s h) ∙ (unfold wrote in take-at s (drop (length s) room) n (sym p))
 
--- the room is as long as it was
-pub length-wrote : (room t : List ℕ) → length t ≤ length room → length (wrote room t) ≡ length room
-length-wrote room t h = ap length (sym (sets-fill room t h)) ∙ length-sets room 0 t
-
 -- the answer and the room, where the text has room and where it has none
 pub fitted-room : (n : ℕ) (t : List ℕ) → length t ≤ n → fitted n t ≡ Wrote (length t)
 unfolding fitted
@@ -95,10 +83,14 @@ filled-none room t h = rw (lt-leb (length t) (length room) h)
 pub filled-sets : (room t : List ℕ) → length t ≤ length room → sets room 0 t ≡ filled room t
 filled-sets room t h = sets-fill room t h ∙ sym (filled-room room t h)
 
--- the room is as long as it was, whether or not it fits
-pub length-filled : (room t : List ℕ) → length (filled room t) ≡ length room
-length-filled room t = go (leb (length t) (length room)) refl
+wrote-refused : {P : Type 0} {n k p : ℕ} → Wrote n ≡ Refused k p → P
+wrote-refused e = let z : _≡_ {A = ℕ} 0 1 = cc in absurd (omega arith)
+
+-- text that does not fit is not written at all
+pub filled-kept : (room t : List ℕ) (k p : ℕ) → fitted (length room) t ≡ Refused k p → filled room t ≡ room
+unfolding fitted filled
+filled-kept room t k p e = go (leb (length t) (length room)) refl
   where
-    go : (b : Bool) → leb (length t) (length room) ≡ b → length (filled room t) ≡ length room
-    go true e = let h = leb-true (length t) (length room) e in ap length (filled-room room t h) ∙ length-wrote room t h
-    go false e = ap length (filled-none room t (leb-false (length t) (length room) e))
+    go : (b : Bool) → leb (length t) (length room) ≡ b → filled room t ≡ room
+    go true h = wrote-refused (rw h at e)
+    go false h = rw h

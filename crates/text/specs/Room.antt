@@ -1,5 +1,5 @@
 -- Lent room: an answer fills its start and leaves its rest; where it does not fit, it is refused as 19 and nothing changes.
-use Prim.Native.Nat.{ℕ, _/_, _%_}
+use Prim.Native.Nat.{ℕ, _+_, _*_, _/_, _%_}
 use mathlib.Core.List.{List, [], _∷_, _++_}
 use mathlib.Core.Bool.{cond}
 use lib.ListN.{length, drop}
@@ -19,6 +19,9 @@ fitted n t = cond (leb (length t) n) (Wrote (length t)) (Refused 19 0)
 unfoldable pub filled : List ℕ → List ℕ → List ℕ
 filled room t = cond (leb (length t) (length room)) (wrote room t) room
 
--- two bytes, high first; and the number that they are
-abbrev pub two : ℕ → List ℕ
-two n = n / 256 ∷ n % 256 ∷ []
+-- a number in two bytes, high first; and the number that two bytes are
+abbrev pub highLow : ℕ → List ℕ
+highLow n = n / 256 ∷ n % 256 ∷ []
+
+abbrev pub be16 : ℕ → ℕ → ℕ
+be16 high low = 256 * high + low

@@ -1,12 +1,12 @@
 // What every layer uses: classes of bytes, equal texts, decimal numbers, and writing into lent room.
 ghost use mathlib.Core.Path.{_≡_};
-ghost use Prim.Native.Nat.{_+_, _*_};
+ghost use Prim.Native.Nat.{_+_};
 ghost use lib.ListN.{set, length, drop};
 ghost use lib.Seq.{sets};
 ghost use Rattle.text.specs.Lists.{allOf, runLen};
 ghost use Rattle.text.specs.Bytes.{sameBytes, isLetter, isDigit, isWord, printable};
 ghost use Rattle.text.specs.Decimal.{decimalOf, width, digits};
-ghost use Rattle.text.specs.Room.{two};
+ghost use Rattle.text.specs.Room.{be16};
 
 // The answer of a function that writes into lent room.
 pub enum Answer {
@@ -201,7 +201,7 @@ fn digit_value(b: u8) -> u64
 
 // Two bytes as a number, high first.
 pub fn pair(high: u8, low: u8) -> usize
-    ensures { λ r. ⌜ r ≡ 256 * high + low ⌝ }
+    ensures { λ r. ⌜ r ≡ be16 high low ⌝ }
 {
     256 * (high as usize) + (low as usize)
 }
@@ -236,14 +236,6 @@ fn least(a: usize, b: usize) -> usize
         return a;
     }
     b
-}
-
-// A number in two bytes, high first, at a place of the room.
-pub fn put_two(out: &mut [u8], at: usize, n: u16)
-    ensures { λ r. ⌜ now (out .exit) ≡ sets (now (out .entry)) at (two n) ⌝ }
-{
-    let t = [(n / 256) as u8, (n % 256) as u8];
-    copy(out, at, &t);
 }
 
 // How many digits a number has in decimal.

@@ -1,10 +1,8 @@
 -- `text::put_decimal` meets its contract.
-use mathlib.Core.Path.{_≡_, sym, ap, _∙_}
-use mathlib.Core.List.{[], _∷_}
+use mathlib.Core.Path.{sym, ap, _∙_}
 use native.Mathlib.Omega.{arith}
 use lib.Seq.{sets}
-use Rattle.text.specs.Decimal.{fiveDigits}
-use Rattle.text.proofs.Decimals.{width-between, length-digits, digits-part}
+use Rattle.text.proofs.Decimals.{width-between, length-digits, five-digits, digits-part}
 use borrow.Author.Needs.{needs}
 use Rattle.text.proofs.put_decimal.Statement.{statement}
 use Rattle.text.proofs.put_decimal.Tie as tie
@@ -53,9 +51,8 @@ returns c =
     let four = five .before in
     let three = four .before in
     let two = three .before in
-    let d = two .before .digit .result ∷ two .digit2 .result ∷ three .digit3 .result ∷ four .digit4 .result ∷ five .digit5 .result ∷ [] in
-    let e : d ≡ fiveDigits (a .n) = cc in
-    let part = digits-part (a .n) (w .result) d (w .ensures) e in
+    let e = five-digits (a .n) _ _ _ _ _ (two .before .digit .ensures) (two .digit2 .ensures) (three .digit3 .ensures) (four .digit4 .ensures) (five .digit5 .ensures) in
+    let part = digits-part (a .n) (w .result) _ (w .ensures) e in
     (w .ensures ∙ sym (length-digits (a .n)), c .before .before .copy .ensures ∙ ap (sets (a .out .now) (a .at)) part)
 
 pub put-decimal-spec : {M : Type 1} → statement M
