@@ -13,8 +13,8 @@ use lib.Seq.{sets, drop-cons, drop-drop, take-suc, take-suc-set, getD-drop, leng
 use lib.Dec.{ltb, eqb}
 use borrow.Author.Tests.{ltb-true, ltb-false, eqb-false, le-ltb, le-leb}
 use Rattle.joiner.specs.declared.Outcome.the-variants.{More}
-use Rattle.joiner.specs.Lines.{plain, kindOf, isPlain}
-use Rattle.joiner.specs.Step.{st, byteStep, more, stored, Step}
+use Rattle.joiner.specs.Lines.{plain, byteKind, isPlainByte}
+use Rattle.joiner.specs.Step.{st, byteStep, more, stored, Effect}
 use Rattle.joiner.specs.Join.{Ran, run}
 use Rattle.joiner.proofs.Laws.{isMore, kind-plain, is-plain, cons-more, plain-step}
 
@@ -47,11 +47,11 @@ has-more b x k false i e j h q = go (ltb j k) refl
 
 -- a block that has none of the three
 pub none-marked : (b : List ℕ) (p q r : Bool) → (p ≡ false → (k : ℕ) → k < 16 → getD b k 0 ≡ 96 → ⊥) → (q ≡ false → (k : ℕ) → k < 16 → getD b k 0 ≡ 13 → ⊥)
-    → (r ≡ false → (k : ℕ) → k < 16 → getD b k 0 ≡ 10 → ⊥) → not (p || q || r) ≡ true → (k : ℕ) → k < 16 → isPlain (kindOf (getD b k 0)) ≡ true
+    → (r ≡ false → (k : ℕ) → k < 16 → getD b k 0 ≡ 10 → ⊥) → not (p || q || r) ≡ true → (k : ℕ) → k < 16 → isPlainByte (byteKind (getD b k 0)) ≡ true
 none-marked b true q r i j l e k h = absurd (false≢true e)
 none-marked b false true r i j l e k h = absurd (false≢true e)
 none-marked b false false true i j l e k h = absurd (false≢true e)
-none-marked b false false false i j l e k h = ap isPlain (kind-plain (getD b k 0) (j refl k h) (l refl k h) (i refl k h))
+none-marked b false false false i j l e k h = ap isPlainByte (kind-plain (getD b k 0) (j refl k h) (l refl k h) (i refl k h))
 
 -- ---- a turn of the loop of `put`: one byte more is stored
 
@@ -65,17 +65,17 @@ put-more d b at k h =
 -- ---- a run of plain bytes that there is room for
 
 abbrev pub Plain : List ℕ → Type 0
-Plain xs = (k : ℕ) → k < length xs → isPlain (kindOf (getD xs k 0)) ≡ true
+Plain xs = (k : ℕ) → k < length xs → isPlainByte (byteKind (getD xs k 0)) ≡ true
 
 pub plain-run : (xs ys : List ℕ) (n h : ℕ) (b : List ℕ) → h + length xs ≤ 1024 → Plain xs
     → run n (st h false false false) b (xs ++ ys) ≡ run (n + length xs) (st (h + length xs) false false false) (sets b h xs) ys
 plain-run [] ys n h b l p = rw (add-zero n, add-zero h) refl
 plain-run (x ∷ xs) ys n h b l p =
-    let f = plain-step h x (omega arith) (is-plain (kindOf x) (p 0 (omega arith))) in
+    let f = plain-step h x (omega arith) (is-plain (byteKind x) (p 0 (omega arith))) in
     let s : suc n + length xs ≡ n + suc (length xs) = omega arith in
     let t : suc h + length xs ≡ h + suc (length xs) = omega arith in
-    cons-more n (st h false false false) b x (xs ++ ys) (ap (λ (r : Step). isMore (r .out)) f)
-    ∙ ap (λ (r : Step). run (suc n) (r .state) (stored h b (r .put)) (xs ++ ys)) f
+    cons-more n (st h false false false) b x (xs ++ ys) (ap (λ (r : Effect). isMore (r .out)) f)
+    ∙ ap (λ (r : Effect). run (suc n) (r .state) (stored h b (r .put)) (xs ++ ys)) f
     ∙ ap (λ (m : ℕ). run (suc n) (st m false false false) (set b h x) (xs ++ ys)) (add-one h)
     ∙ plain-run xs ys (suc n) (suc h) (set b h x) (omega arith) (λ k w. p (suc k) (omega arith))
     ∙ ap (λ (m : ℕ). run m (st (suc h + length xs) false false false) (sets (set b h x) (suc h) xs) ys) s
@@ -83,7 +83,7 @@ plain-run (x ∷ xs) ys n h b l p =
 
 -- ---- a run of plain bytes that a line which is too long takes none of
 
-over-step : (h x : ℕ) → 1024 ≤ h → kindOf x ≡ plain
+over-step : (h x : ℕ) → 1024 ≤ h → byteKind x ≡ plain
     → byteStep (st h false false true) x ≡ record { state = st h false false true; put = x ∷ []; out = More }
 unfolding byteStep more
 over-step h x l e = simp (e, le-ltb h 1024 l, le-leb 1024 h l)
@@ -92,10 +92,10 @@ over-run : (xs ys : List ℕ) (n h : ℕ) (b : List ℕ) → 1024 ≤ h → leng
     → run n (st h false false true) b (xs ++ ys) ≡ run (n + length xs) (st h false false true) b ys
 over-run [] ys n h b l m p = rw (add-zero n) refl
 over-run (x ∷ xs) ys n h b l m p =
-    let f = over-step h x l (is-plain (kindOf x) (p 0 (omega arith))) in
+    let f = over-step h x l (is-plain (byteKind x) (p 0 (omega arith))) in
     let s : suc n + length xs ≡ n + suc (length xs) = omega arith in
-    cons-more n (st h false false true) b x (xs ++ ys) (ap (λ (r : Step). isMore (r .out)) f)
-    ∙ ap (λ (r : Step). run (suc n) (r .state) (stored h b (r .put)) (xs ++ ys)) f
+    cons-more n (st h false false true) b x (xs ++ ys) (ap (λ (r : Effect). isMore (r .out)) f)
+    ∙ ap (λ (r : Effect). run (suc n) (r .state) (stored h b (r .put)) (xs ++ ys)) f
     ∙ ap (λ (d : List ℕ). run (suc n) (st h false false true) d (xs ++ ys)) (set-out b h x (omega arith))
     ∙ over-run xs ys (suc n) h b l m (λ k w. p (suc k) (omega arith))
     ∙ ap (λ (m : ℕ). run m (st h false false true) b ys) s
@@ -104,7 +104,7 @@ over-run (x ∷ xs) ys n h b l m p =
 
 pub turn-block : (o : Bool) (R : Ran) (i h r : ℕ) (b c p d : List ℕ) → i + 16 ≤ length p → (o ≡ false → h + 16 ≤ 1024) → (o ≡ true → 1024 ≤ h)
     → length b ≡ 1024 → R ≡ run i (st h false false o) b (drop i p) → d ≡ take 16 (drop i p)
-    → ((k : ℕ) → k < 16 → isPlain (kindOf (getD d k 0)) ≡ true) → r ≡ cond o h (h + 16) → c ≡ cond o b (sets b h d)
+    → ((k : ℕ) → k < 16 → isPlainByte (byteKind (getD d k 0)) ≡ true) → r ≡ cond o h (h + 16) → c ≡ cond o b (sets b h d)
     → R ≡ run (i + 16) (st r false false o) c (drop (i + 16) p)
 turn-block o R i h r b c p d l small large m inv e q f g =
     inv

@@ -1,12 +1,12 @@
--- The lines that calls give are those of the capture, and its end, however it is cut into parts; and such calls come to their end.
+-- The lines that calls give are those of the capture, and its end, whatever beginnings of what is left they see; and such calls come to their end.
 -- Assumes nothing.
 use Prim.Native.Nat.{ℕ, zero, suc, _+_, _<_, _≤_, min}
 use native.Mathlib.Omega.{arith}
 use mathlib.Core.Path.{_≡_, refl, sym, ap, _∙_}
-use mathlib.Core.List.{List, [], _∷_, _++_, flatten, append-assoc}
+use mathlib.Core.List.{List, [], _∷_, _++_, append-assoc}
 use mathlib.Core.Bool.{Bool, true, false, _||_, cond, false≢true}
 use mathlib.Core.Logic.{⊎-elim}
-use lib.ListN.{length, take, drop, set, length-set, length-append, length-drop}
+use lib.ListN.{length, take, drop, set, length-set, length-append, length-drop, take-append-drop}
 use lib.Seq.{take-all, take-suc-set, take-append-le, set-out}
 use lib.Dec.{ltb, leb}
 use native.Mathlib.Numerals.{add-one}
@@ -15,12 +15,12 @@ use borrow.Author.Tests.{lt-ltb, le-ltb, le-leb, lt-leb, ltb-true, ltb-false, eq
 use Rattle.joiner.specs.declared.Joiner.{Joiner}
 use Rattle.joiner.specs.declared.Outcome.{Outcome}
 use Rattle.joiner.specs.declared.Outcome.the-variants.{More, Line, Refused}
-use Rattle.joiner.specs.Step.{byteStep, stepBy, st, start, more, stored, lineOf, stateAfter, Step}
+use Rattle.joiner.specs.Step.{byteStep, stepBy, st, start, more, stored, lineOf, stateAfter, Effect}
 use Rattle.joiner.specs.declared.End.the-variants
 use Rattle.joiner.specs.Join.{Ran, run, joinOf, endOf}
-use Rattle.joiner.specs.Lines.{Kind, CR, LF, GRAVE, plain, kindOf, Given, line, refused, Open, open′, Next, lineOrRefused, nextBy, next, linesFrom, linesOf}
+use Rattle.joiner.specs.Lines.{ByteKind, CR, LF, GRAVE, plain, byteKind, Given, line, refused, Open, open′, Next, lineOrRefused, nextBy, nextOpen, linesFrom, linesOf}
 use Rattle.joiner.specs.Lines.{cut, nothing, openAfter, endingFrom, endingOf}
-use Rattle.joiner.specs.Calls.{givenOf, endAs, Calls, done, onward, call}
+use Rattle.joiner.specs.Calls.{givenOf, endAs, Calls, done, call}
 use Rattle.joiner.proofs.Laws.{isMore, cons-more, cons-stop}
 use Rattle.joiner.proofs.Reach.{Fine, fine-start, fine-step, of-fine, room, more-room, more-full}
 
@@ -78,19 +78,19 @@ core-given h v b t c = go v (c .over)
     go true e =
         let l : 1024 < length t = ltb-true 1024 (length t) (sym e) in
         let m : 1024 ≡ h = sym (c .held ∙ min-eq-right (omega arith)) in
-        rw (lt-ltb 1024 (length t) l) (ap (λ (u : List ℕ). refused u ∷ []) (ap (λ (k : ℕ). take k b) m ∙ c .text))
+        rw (lt-ltb 1024 (length t) l) (ap (λ (u : List ℕ). refused 1 1024 u ∷ []) (ap (λ (k : ℕ). take k b) m ∙ c .text))
     go false e =
         let l : length t ≤ 1024 = ltb-false 1024 (length t) (sym e) in
         rw (le-ltb 1024 (length t) l) (ap (λ (u : List ℕ). line u ∷ []) (c .text ∙ take-all 1024 t l))
 
 -- ---- one byte, in the code and in the text
 
-record By (T : Step) (N : Next) (b : List ℕ) : Type 0 where
+record By (T : Effect) (N : Next) (b : List ℕ) : Type 0 where
   core : Core (T .state .held) (T .state .over) b (N .left .text)
   flags : N .left ≡ open′ (N .left .text) (T .state .grave) (T .state .cr)
   given : givenOf (T .out) b ≡ N .given
 
-by : (k : Kind) (h : ℕ) (g r v : Bool) (x : ℕ) (b t : List ℕ) → Core h v b t
+by : (k : ByteKind) (h : ℕ) (g r v : Bool) (x : ℕ) (b t : List ℕ) → Core h v b t
     → By (stepBy k g r x (st h g r v)) (nextBy k g r x t) (stored h b (stepBy k g r x (st h g r v) .put))
 by CR h true r v x b t c = record { core = c; flags = refl; given = refl }
 by CR h false r v x b t c = record { core = core-fresh b (c .long); flags = refl; given = core-given h v b t c }
@@ -103,11 +103,11 @@ by plain h true r v x b t c = record { core = core-pair h v b t x c; flags = ref
 by plain h false r v x b t c = record { core = core-push h v b t x c; flags = refl; given = refl }
 
 by-byte : (s : Joiner) (b t : List ℕ) (x : ℕ) → Core (s .held) (s .over) b t
-    → By (byteStep s x) (next (open′ t (s .grave) (s .cr)) x) (stored (s .held) b (byteStep s x .put))
-unfolding byteStep next
-by-byte s b t x c = by (kindOf x) (s .held) (s .grave) (s .cr) (s .over) x b t c
+    → By (byteStep s x) (nextOpen (open′ t (s .grave) (s .cr)) x) (stored (s .held) b (byteStep s x .put))
+unfolding byteStep nextOpen
+by-byte s b t x c = by (byteKind x) (s .held) (s .grave) (s .cr) (s .over) x b t c
 
--- ---- a call: it gives the lines of what it used, and what is left of the part gives the rest
+-- ---- a call: it gives the lines of what it used, and what is left of the capture gives the rest
 
 record Ends (n : ℕ) (s : Joiner) (t p q : List ℕ) (R : Ran) : Type 0 where
   count : ℕ
@@ -118,10 +118,10 @@ record Ends (n : ℕ) (s : Joiner) (t p q : List ℕ) (R : Ran) : Type 0 where
   core : Core (R .answer .state .held) (R .answer .state .over) (R .buffer) text
   lines : linesFrom (open′ t (s .grave) (s .cr)) (p ++ q)
       ≡ givenOf (R .answer .outcome) (R .buffer)
-      ++ linesFrom (open′ text (R .answer .state .grave) (R .answer .state .cr)) (drop count p ++ q)
-  state : stateAfter s (p ++ q) ≡ stateAfter (R .answer .state) (drop count p ++ q)
+      ++ linesFrom (open′ text (R .answer .state .grave) (R .answer .state .cr)) (drop count (p ++ q))
+  state : stateAfter s (p ++ q) ≡ stateAfter (R .answer .state) (drop count (p ++ q))
   left : openAfter (open′ t (s .grave) (s .cr)) (p ++ q)
-      ≡ openAfter (open′ text (R .answer .state .grave) (R .answer .state .cr)) (drop count p ++ q)
+      ≡ openAfter (open′ text (R .answer .state .grave) (R .answer .state .cr)) (drop count (p ++ q))
 
 given-more : (o : Outcome) (b : List ℕ) → isMore o ≡ true → givenOf o b ≡ []
 given-more More b e = refl
@@ -132,18 +132,18 @@ given-more (Refused k p) b e = absurd (false≢true e)
 first : (s : Joiner) (b t : List ℕ) (x : ℕ) (xs : List ℕ) → (c : Core (s .held) (s .over) b t)
     → linesFrom (open′ t (s .grave) (s .cr)) (x ∷ xs)
     ≡ givenOf (byteStep s x .out) (stored (s .held) b (byteStep s x .put))
-    ++ linesFrom (open′ (next (open′ t (s .grave) (s .cr)) x .left .text) (byteStep s x .state .grave) (byteStep s x .state .cr)) xs
+    ++ linesFrom (open′ (nextOpen (open′ t (s .grave) (s .cr)) x .left .text) (byteStep s x .state .grave) (byteStep s x .state .cr)) xs
 unfolding linesFrom
 first s b t x xs c =
     let y = by-byte s b t x c in
-    ap (λ (o : Open). next (open′ t (s .grave) (s .cr)) x .given ++ linesFrom o xs) (y .flags)
-    ∙ ap (λ (l : List Given). l ++ linesFrom (open′ (next (open′ t (s .grave) (s .cr)) x .left .text) (byteStep s x .state .grave) (byteStep s x .state .cr)) xs)
+    ap (λ (o : Open). nextOpen (open′ t (s .grave) (s .cr)) x .given ++ linesFrom o xs) (y .flags)
+    ∙ ap (λ (l : List Given). l ++ linesFrom (open′ (nextOpen (open′ t (s .grave) (s .cr)) x .left .text) (byteStep s x .state .grave) (byteStep s x .state .cr)) xs)
     (sym (y .given))
 
 -- and in what is left open
 first-left : (s : Joiner) (b t : List ℕ) (x : ℕ) (xs : List ℕ) → (c : Core (s .held) (s .over) b t)
     → openAfter (open′ t (s .grave) (s .cr)) (x ∷ xs)
-    ≡ openAfter (open′ (next (open′ t (s .grave) (s .cr)) x .left .text) (byteStep s x .state .grave) (byteStep s x .state .cr)) xs
+    ≡ openAfter (open′ (nextOpen (open′ t (s .grave) (s .cr)) x .left .text) (byteStep s x .state .grave) (byteStep s x .state .cr)) xs
 unfolding openAfter
 first-left s b t x xs c = ap (λ (o : Open). openAfter o xs) (by-byte s b t x c .flags)
 
@@ -160,7 +160,7 @@ ends n s b t (x ∷ xs) q f c = go (isMore (byteStep s x .out)) refl (ends (suc 
     b′ = stored (s .held) b (byteStep s x .put)
 
     t′ : List ℕ
-    t′ = next (open′ t (s .grave) (s .cr)) x .left .text
+    t′ = nextOpen (open′ t (s .grave) (s .cr)) x .left .text
 
     go : (m : Bool) → isMore (byteStep s x .out) ≡ m → Ends (suc n) s′ t′ xs q (run (suc n) s′ b′ xs) → Ends n s t (x ∷ xs) q (run n s b (x ∷ xs))
     go true e r = rw (cons-more n s b x xs e) (record {
@@ -209,68 +209,71 @@ same-end : (o o′ : Open) (c c′ : List ℕ) → openAfter o c ≡ openAfter o
 unfolding endingFrom
 same-end o o′ c c′ e = rw e
 
--- ---- THE THEOREM: calls over any parts give the lines of the capture that the parts make up, leave the state that it leads to, and
--- then the end says what the capture's end says
+-- ---- THE THEOREM: calls that see the capture in any beginnings of what is left give its lines, an over-long one refused as 1, leave the state that it
+-- leads to, and then the end says what the capture's end says
 
 pub record Gives (o : Open) (s s′ : Joiner) (c : List ℕ) (l : List Given) : Type 0 where
   pub lines : l ≡ linesFrom o c
   pub state : s′ ≡ stateAfter s c
   pub end : endOf s′ ≡ endAs (endingFrom o c)
 
-from : {s s′ : Joiner} {b : List ℕ} {ps : List (List ℕ)} {l : List Given} (t : List ℕ) → Fine s → Core (s .held) (s .over) b t → Calls s b ps l s′
-    → Gives (open′ t (s .grave) (s .cr)) s s′ (flatten ps) l
-unfolding flatten linesFrom stateAfter
-from {s} {b = b} t f c done = record { lines = refl; state = refl; end = end-as s b t f c }
-from t f c (onward d) = from t f c d
-from {s} {b = b} t f c (call {ps = ps} p d) =
-    let r = join-ends s b t p (flatten ps) f c in
-    let k : joinOf s b p .answer .used ≡ r .count = omega (arith, r .used) in
+from : {ns b c : List ℕ} {s s′ : Joiner} {l : List Given} (t : List ℕ) → Fine s → Core (s .held) (s .over) b t → Calls ns s b c l s′
+    → Gives (open′ t (s .grave) (s .cr)) s s′ c l
+unfolding linesFrom stateAfter
+from {b = b} {s = s} t f k done = record { lines = refl; state = refl; end = end-as s b t f k }
+from {b = b} {c = c} {s = s} t f k (call n d) =
+    let r = join-ends s b t (take n c) (drop n c) f k in
+    let e : take n c ++ drop n c ≡ c = take-append-drop n c in
+    let u : joinOf s b (take n c) .answer .used ≡ r .count = omega (arith, r .used) in
     let i = from (r .text) (r .fine) (r .core) d in
     record {
-      lines = ap (λ (m : List Given). givenOf (joinOf s b p .answer .outcome) (joinOf s b p .buffer) ++ m) (rw k at (i .lines)) ∙ sym (r .lines);
-      state = (rw k at (i .state)) ∙ sym (r .state);
-      end = (rw k at (i .end)) ∙ ap endAs (same-end _ _ _ _ (sym (r .left)));
+      lines = ap (λ (m : List Given). givenOf (joinOf s b (take n c) .answer .outcome) (joinOf s b (take n c) .buffer) ++ m) (rw u at (i .lines)) ∙ sym (rw e at (r .lines));
+      state = (rw u at (i .state)) ∙ sym (rw e at (r .state));
+      end = (rw u at (i .end)) ∙ ap endAs (same-end _ _ _ _ (sym (rw e at (r .left))));
     }
 
-pub calls-give : (b : List ℕ) (ps : List (List ℕ)) (l : List Given) (s : Joiner) → length b ≡ 1024 → Calls start b ps l s
-    → (l ≡ linesOf (flatten ps)) × (s ≡ stateAfter start (flatten ps)) × (endOf s ≡ endAs (endingOf (flatten ps)))
+pub calls-give : (ns b c : List ℕ) (l : List Given) (s : Joiner) → length b ≡ 1024 → Calls ns start b c l s
+    → (l ≡ linesOf c) × (s ≡ stateAfter start c) × (endOf s ≡ endAs (endingOf c))
 unfolding linesOf endingOf
-calls-give b ps l s h d =
+calls-give ns b c l s h d =
     let g = from [] fine-start (core-fresh b h) d in
     (g .lines, g .state, g .end)
 
--- so cutting a capture elsewhere changes no line, and not what the end of the capture says
-pub cut-elsewhere : (b b′ : List ℕ) (ps qs : List (List ℕ)) (l l′ : List Given) (s s′ : Joiner) → length b ≡ 1024 → length b′ ≡ 1024
-    → flatten ps ≡ flatten qs → Calls start b ps l s → Calls start b′ qs l′ s′ → (l ≡ l′) × (s ≡ s′)
-cut-elsewhere b b′ ps qs l l′ s s′ h h′ e d d′ =
-    let x = calls-give b ps l s h d in
-    let y = calls-give b′ qs l′ s′ h′ d′ in
-    (x .0 ∙ ap linesOf e ∙ sym (y .0), x .1 ∙ ap (stateAfter start) e ∙ sym (y .1))
+-- so cutting a capture elsewhere changes no line, and not the state at its end
+pub cut-elsewhere : (ns ms b b′ c : List ℕ) (l l′ : List Given) (s s′ : Joiner) → length b ≡ 1024 → length b′ ≡ 1024
+    → Calls ns start b c l s → Calls ms start b′ c l′ s′ → (l ≡ l′) × (s ≡ s′)
+cut-elsewhere ns ms b b′ c l l′ s s′ h h′ d d′ =
+    let x = calls-give ns b c l s h d in
+    let y = calls-give ms b′ c l′ s′ h′ d′ in
+    (x .0 ∙ sym (y .0), x .1 ∙ sym (y .1))
 
--- ---- there is such a run of calls: each call on a part that is not empty uses a byte or more
+-- ---- such calls come to their end, whatever the first ones see: a call that sees a byte uses one or more
 
-Runs : Joiner → List ℕ → List (List ℕ) → Type 0
-Runs s b ps = (l : List Given) × (s′ : Joiner) × Calls s b ps l s′
+Runs : List ℕ → Joiner → List ℕ → List ℕ → Type 0
+Runs ns s b c = (ms : List ℕ) × (l : List Given) × (s′ : Joiner) × Calls (ns ++ ms) s b c l s′
 
-on-part : (fuel : ℕ) (s : Joiner) (b t p : List ℕ) (ps : List (List ℕ)) → length p ≤ fuel → Fine s → Core (s .held) (s .over) b t
-    → ((s′ : Joiner) (b′ t′ : List ℕ) → Fine s′ → Core (s′ .held) (s′ .over) b′ t′ → Runs s′ b′ ps) → Runs s b (p ∷ ps)
+to-end : (fuel : ℕ) (s : Joiner) (b t c : List ℕ) → length c ≤ fuel → Fine s → Core (s .held) (s .over) b t → Runs [] s b c
 unfolding Runs
-on-part zero s b t [] ps h f c k = let r = k s b t f c in (r .0, r .1, onward (r .2))
-on-part zero s b t (x ∷ xs) ps h f c k = absurd (omega arith)
-on-part (suc fuel) s b t [] ps h f c k = let r = k s b t f c in (r .0, r .1, onward (r .2))
-on-part (suc fuel) s b t (x ∷ xs) ps h f c k =
-    let p : List ℕ = x ∷ xs in
-    let e = join-ends s b t p [] f c in
-    let u : 0 < joinOf s b p .answer .used = omega (arith, e .used, e .some (omega arith)) in
-    let r = on-part fuel (joinOf s b p .answer .state) (joinOf s b p .buffer) (e .text) (drop (joinOf s b p .answer .used) p) ps
-    (omega (arith, length-drop (joinOf s b p .answer .used) p)) (e .fine) (e .core) k in
-    (givenOf (joinOf s b p .answer .outcome) (joinOf s b p .buffer) ++ r .0, r .1, call p (r .2))
+to-end zero s b t [] h f k = ([], [], s, done)
+to-end zero s b t (x ∷ xs) h f k = absurd (omega arith)
+to-end (suc fuel) s b t [] h f k = ([], [], s, done)
+to-end (suc fuel) s b t (x ∷ xs) h f k =
+    let c : List ℕ = x ∷ xs in
+    let n : ℕ = length c in
+    let e = join-ends s b t (take n c) (drop n c) f k in
+    let u : 0 < joinOf s b (take n c) .answer .used = omega (arith, e .used, e .some (omega (arith, ap length (take-all n c (le-refl n))))) in
+    let r = to-end fuel (joinOf s b (take n c) .answer .state) (joinOf s b (take n c) .buffer) (e .text) (drop (joinOf s b (take n c) .answer .used) c)
+    (omega (arith, length-drop (joinOf s b (take n c) .answer .used) c)) (e .fine) (e .core) in
+    (n ∷ r .0, givenOf (joinOf s b (take n c) .answer .outcome) (joinOf s b (take n c) .buffer) ++ r .1, r .2, call n (r .3))
 
-on-parts : (ps : List (List ℕ)) (s : Joiner) (b t : List ℕ) → Fine s → Core (s .held) (s .over) b t → Runs s b ps
+runs : (ns : List ℕ) (s : Joiner) (b t c : List ℕ) → Fine s → Core (s .held) (s .over) b t → Runs ns s b c
 unfolding Runs
-on-parts [] s b t f c = ([], s, done)
-on-parts (p ∷ ps) s b t f c = on-part (length p) s b t p ps (le-refl (length p)) f c (on-parts ps)
+runs [] s b t c f k = to-end (length c) s b t c (le-refl (length c)) f k
+runs (n ∷ ns) s b t c f k =
+    let e = join-ends s b t (take n c) (drop n c) f k in
+    let r = runs ns (joinOf s b (take n c) .answer .state) (joinOf s b (take n c) .buffer) (e .text) (drop (joinOf s b (take n c) .answer .used) c) (e .fine) (e .core) in
+    (r .0, givenOf (joinOf s b (take n c) .answer .outcome) (joinOf s b (take n c) .buffer) ++ r .1, r .2, call n (r .3))
 
-pub calls-run : (b : List ℕ) (ps : List (List ℕ)) → length b ≡ 1024 → (l : List Given) × (s : Joiner) × Calls start b ps l s
+pub calls-run : (ns b c : List ℕ) → length b ≡ 1024 → (ms : List ℕ) × (l : List Given) × (s : Joiner) × Calls (ns ++ ms) start b c l s
 unfolding Runs
-calls-run b ps h = on-parts ps start b [] fine-start (core-fresh b h)
+calls-run ns b c h = runs ns start b [] c fine-start (core-fresh b h)

@@ -4,7 +4,7 @@ use Prim.Native.Nat.{ℕ}
 use mathlib.Core.Path.{_≡_, refl}
 use mathlib.Core.List.{List, [], _∷_, _++_, map}
 use lib.ListN.{replicate}
-use Rattle.joiner.specs.Lines.{kindOf, Given, line, refused, next, linesFrom, linesOf, lineOrRefused, Ending, cut, nothing, openAfter, endingFrom, endingOf}
+use Rattle.joiner.specs.Lines.{byteKind, Given, line, refused, nextOpen, linesFrom, linesOf, lineOrRefused, Ending, cut, nothing, openAfter, endingFrom, endingOf}
 
 abbrev pub Example : Type 0
 Example = List ℕ × List Given × Ending
@@ -36,15 +36,15 @@ examples =
     []
 
 pub worked : map {B = Example} (λ (e : Example). (e .0, linesOf (e .0), endingOf (e .0))) examples ≡ examples
-unfolding linesOf linesFrom next kindOf lineOrRefused endingOf endingFrom openAfter
+unfolding linesOf linesFrom nextOpen byteKind lineOrRefused endingOf endingFrom openAfter
 worked = refl
 
--- a line of 1,024 bytes is one, and with a byte more it is refused with its first 1,024 bytes kept
-pub limit : linesOf (replicate 1024 97 ++ (10 ∷ []) ++ replicate 1025 97 ++ (13 ∷ [])) ≡ line (replicate 1024 97) ∷ refused (replicate 1024 97) ∷ []
-unfolding linesOf linesFrom next kindOf lineOrRefused
+-- a line of 1,024 bytes is one, and with a byte more it is refused as 1 at 1,024, its first 1,024 bytes kept
+pub limit : linesOf (replicate 1024 97 ++ (10 ∷ []) ++ replicate 1025 97 ++ (13 ∷ [])) ≡ line (replicate 1024 97) ∷ refused 1 1024 (replicate 1024 97) ∷ []
+unfolding linesOf linesFrom nextOpen byteKind lineOrRefused
 limit = refl
 
 -- a pair across the limit leaves its GRAVE as the last byte kept, and joins are followed in the part thrown away
-pub across : linesOf (replicate 1023 97 ++ (96 ∷ 98 ∷ 96 ∷ 10 ∷ 99 ∷ 10 ∷ [])) ≡ refused (replicate 1023 97 ++ (96 ∷ [])) ∷ []
-unfolding linesOf linesFrom next kindOf lineOrRefused
+pub across : linesOf (replicate 1023 97 ++ (96 ∷ 98 ∷ 96 ∷ 10 ∷ 99 ∷ 10 ∷ [])) ≡ refused 1 1024 (replicate 1023 97 ++ (96 ∷ [])) ∷ []
+unfolding linesOf linesFrom nextOpen byteKind lineOrRefused
 across = refl

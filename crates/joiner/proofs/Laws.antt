@@ -14,33 +14,32 @@ use denote.Enum.Declared.{tagOf}
 use Rattle.joiner.proofs.Outcome.{the-type}
 use borrow.Author.Tests.{ne-eqb, eqb-true, lt-ltb, lt-leb}
 use Rattle.joiner.specs.declared.Joiner.{Joiner}
-use Rattle.joiner.specs.declared.Joined.{Joined}
 use Rattle.joiner.specs.declared.Stepped.{Stepped}
 use Rattle.joiner.specs.declared.Outcome.{Outcome}
 use Rattle.joiner.specs.declared.Outcome.the-variants.{More, Line, Refused}
-use Rattle.joiner.specs.Lines.{Kind, CR, LF, GRAVE, plain, kindOf, isPlain}
-use Rattle.joiner.specs.Step.{byteStep, stepBy, endStep, marks, gets, stored, pushed, st, steppedOf, reachable, more, Step}
+use Rattle.joiner.specs.Lines.{ByteKind, CR, LF, GRAVE, plain, byteKind, isPlainByte}
+use Rattle.joiner.specs.Step.{byteStep, stepBy, endStep, marks, gets, stored, pushed, st, steppedOf, reachable, more, Effect}
 use Rattle.joiner.specs.Join.{Ran, ran, run, goOn, joinOf}
 
 -- ---- a byte's kind
 
-pub kind-cr : (x : ℕ) → x ≡ 13 → kindOf x ≡ CR
-unfolding kindOf
+pub kind-cr : (x : ℕ) → x ≡ 13 → byteKind x ≡ CR
+unfolding byteKind
 kind-cr x e = simp e
 
-pub kind-lf : (x : ℕ) → x ≡ 10 → kindOf x ≡ LF
-unfolding kindOf
+pub kind-lf : (x : ℕ) → x ≡ 10 → byteKind x ≡ LF
+unfolding byteKind
 kind-lf x e = simp e
 
-pub kind-grave : (x : ℕ) → x ≡ 96 → kindOf x ≡ GRAVE
-unfolding kindOf
+pub kind-grave : (x : ℕ) → x ≡ 96 → byteKind x ≡ GRAVE
+unfolding byteKind
 kind-grave x e = simp e
 
-pub kind-plain : (x : ℕ) → (x ≡ 13 → ⊥) → (x ≡ 10 → ⊥) → (x ≡ 96 → ⊥) → kindOf x ≡ plain
-unfolding kindOf
+pub kind-plain : (x : ℕ) → (x ≡ 13 → ⊥) → (x ≡ 10 → ⊥) → (x ≡ 96 → ⊥) → byteKind x ≡ plain
+unfolding byteKind
 kind-plain x a b c = simp (ne-eqb x 13 a, ne-eqb x 10 b, ne-eqb x 96 c)
 
-pub is-plain : (k : Kind) → isPlain k ≡ true → k ≡ plain
+pub is-plain : (k : ByteKind) → isPlainByte k ≡ true → k ≡ plain
 is-plain CR e = absurd (false≢true e)
 is-plain LF e = absurd (false≢true e)
 is-plain GRAVE e = absurd (false≢true e)
@@ -74,7 +73,7 @@ module _ (s : Joiner) (x : ℕ) where
   step-plain a b c g = simp (kind-plain x a b c, g)
 
   pub step-pair : (x ≡ 13 → ⊥) → (x ≡ 10 → ⊥) → s .grave ≡ true → byteStep s x ≡ gets (96 ∷ x ∷ []) s
-  unfolding byteStep kindOf
+  unfolding byteStep byteKind
   step-pair a b g = simp (ne-eqb x 13 a, ne-eqb x 10 b, g) (go (eqb x 96))
     where
       go : (t : Bool) → stepBy (cond t GRAVE plain) true (s .cr) x s ≡ gets (96 ∷ x ∷ []) s
@@ -163,21 +162,21 @@ module _ (R : Ran) (i : ℕ) (s : Joiner) (b p : List ℕ) (h : i < length p) (i
       ∙ rw (d .0, d .1, add-one i) refl
 
 -- a turn of the loop of `copy_bytes`: a plain byte where there is room
-pub plain-step : (h x : ℕ) → h < 1024 → kindOf x ≡ plain
+pub plain-step : (h x : ℕ) → h < 1024 → byteKind x ≡ plain
     → byteStep (st h false false false) x ≡ record { state = st (h + 1) false false false; put = x ∷ []; out = More }
 unfolding byteStep more
 plain-step h x l e = simp (e, lt-ltb h 1024 l, lt-leb 1024 h l)
 
 pub turn-plain : (R : Ran) (i h : ℕ) (b p : List ℕ) → i < length p → h < 1024 → R ≡ run i (st h false false false) b (drop i p)
-    → isPlain (kindOf (getD p i 0)) ≡ true → R ≡ run (i + 1) (st (h + 1) false false false) (set b h (getD p i 0)) (drop (i + 1) p)
+    → isPlainByte (byteKind (getD p i 0)) ≡ true → R ≡ run (i + 1) (st (h + 1) false false false) (set b h (getD p i 0)) (drop (i + 1) p)
 turn-plain R i h b p l m inv e =
     let x : ℕ = getD p i 0 in
     let s : Joiner = st h false false false in
-    let f = plain-step h x m (is-plain (kindOf x) e) in
+    let f = plain-step h x m (is-plain (byteKind x) e) in
     inv
     ∙ ap (run i s b) (drop-cons p i 0 l)
-    ∙ cons-more i s b x (drop (suc i) p) (ap (λ (t : Step). isMore (t .out)) f)
-    ∙ ap (λ (t : Step). run (suc i) (t .state) (stored h b (t .put)) (drop (suc i) p)) f
+    ∙ cons-more i s b x (drop (suc i) p) (ap (λ (t : Effect). isMore (t .out)) f)
+    ∙ ap (λ (t : Effect). run (suc i) (t .state) (stored h b (t .put)) (drop (suc i) p)) f
     ∙ rw (add-one i) refl
 
 -- a run of plain bytes from a state in which no GRAVE waits and no CR was just seen
@@ -234,7 +233,3 @@ used-within s b p = go (eqb (length b) 1024 && reachable s)
     go : (t : Bool) → cond t (run 0 s b p) (ran s 0 (Refused 19 0) b) .answer .used ≤ length p
     go true = omega (arith, run-used 0 s b p)
     go false = omega arith
-
--- what a caller has of the answer
-pub answer-within : (r : Joined) (s : Joiner) (b p : List ℕ) → r ≡ joinOf s b p .answer → r .used ≤ length p
-answer-within r s b p e = rw e (used-within s b p)

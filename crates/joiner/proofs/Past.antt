@@ -15,7 +15,7 @@ use lib.Seq.{drop-set-lt, drop-drop, set-out}
 use Rattle.joiner.specs.declared.Joiner.{Joiner}
 use Rattle.joiner.specs.declared.Outcome.{Outcome}
 use Rattle.joiner.specs.declared.Outcome.the-variants.{More, Line, Refused}
-use Rattle.joiner.specs.Lines.{Kind, CR, LF, GRAVE, plain, kindOf}
+use Rattle.joiner.specs.Lines.{ByteKind, CR, LF, GRAVE, plain, byteKind}
 use Rattle.joiner.specs.Step.{byteStep, stepBy, st, more, stored, reachable}
 use Rattle.joiner.specs.Join.{Ran, ran, run, joinOf}
 use Rattle.joiner.proofs.Laws.{isMore, cons-more, cons-stop}
@@ -59,7 +59,7 @@ kept-push h b x l = ⊎-elim small large (room h)
         record { up = rw (more-full h w) (le-refl h); same = ap (drop (more h)) (set-out b h x (omega (arith, l))); long = length-set b h x }
 
 -- a byte that ends no line, and one that does
-by-more : (k : Kind) (h : ℕ) (g r v : Bool) (x : ℕ) (b : List ℕ) → length b ≡ 1024 → isMore (stepBy k g r x (st h g r v) .out) ≡ true
+by-more : (k : ByteKind) (h : ℕ) (g r v : Bool) (x : ℕ) (b : List ℕ) → length b ≡ 1024 → isMore (stepBy k g r x (st h g r v) .out) ≡ true
     → Kept h (stepBy k g r x (st h g r v) .state .held) b (stored h b (stepBy k g r x (st h g r v) .put))
 by-more CR h true r v x b l e = kept-none h b
 by-more CR h false r true x b l e = absurd (false≢true e)
@@ -73,7 +73,7 @@ by-more GRAVE h false r v x b l e = kept-none h b
 by-more plain h true r v x b l e = kept-then (kept-push h b 96 l) (kept-push (more h) (set b h 96) x (length-set b h 96 ∙ l))
 by-more plain h false r v x b l e = kept-push h b x l
 
-by-stop : (k : Kind) (h : ℕ) (g r v : Bool) (x : ℕ) (b : List ℕ) → Fine (st h g r v) → isMore (stepBy k g r x (st h g r v) .out) ≡ false
+by-stop : (k : ByteKind) (h : ℕ) (g r v : Bool) (x : ℕ) (b : List ℕ) → Fine (st h g r v) → isMore (stepBy k g r x (st h g r v) .out) ≡ false
     → Kept h (reach (stepBy k g r x (st h g r v) .out) (stepBy k g r x (st h g r v) .state .held)) b (stored h b (stepBy k g r x (st h g r v) .put))
 by-stop CR h true r v x b f e = absurd (true≢false e)
 by-stop CR h false r true x b f e = record { up = f .within; same = refl; long = refl }
@@ -104,9 +104,9 @@ past n s b (x ∷ xs) f l = go (isMore (byteStep s x .out)) refl
         → (length b′ ≡ 1024 → Kept (s′ .held) (reach (run (suc n) s′ b′ xs .answer .outcome) (run (suc n) s′ b′ xs .answer .state .held)) b′ (run (suc n) s′ b′ xs .buffer))
         → Kept (s .held) (reach (run n s b (x ∷ xs) .answer .outcome) (run n s b (x ∷ xs) .answer .state .held)) b (run n s b (x ∷ xs) .buffer)
     go true e r =
-        let q : Kept (s .held) (s′ .held) b b′ = by-more (kindOf x) (s .held) (s .grave) (s .cr) (s .over) x b l e in
+        let q : Kept (s .held) (s′ .held) b b′ = by-more (byteKind x) (s .held) (s .grave) (s .cr) (s .over) x b l e in
         rw (cons-more n s b x xs e) (kept-then q (r (q .long ∙ l)))
-    go false e r = rw (cons-stop n s b x xs e) (by-stop (kindOf x) (s .held) (s .grave) (s .cr) (s .over) x b f e)
+    go false e r = rw (cons-stop n s b x xs e) (by-stop (byteKind x) (s .held) (s .grave) (s .cr) (s .over) x b f e)
 
 -- THE THEOREM: a call, from any state, on a buffer of any length and any part, leaves the buffer past the text held, or past the line
 -- just ended, as it was; where it is refused as 19, the whole of it

@@ -12,7 +12,7 @@ use lib.Dec.{ltb, leb}
 use borrow.Author.Tests.{lt-ltb, le-ltb, le-leb, lt-leb, ltb-true, ltb-false, leb-true}
 use Rattle.joiner.specs.declared.Joiner.{Joiner}
 use Rattle.joiner.specs.declared.Stepped.{Stepped}
-use Rattle.joiner.specs.Lines.{Kind, CR, LF, GRAVE, plain, kindOf}
+use Rattle.joiner.specs.Lines.{ByteKind, CR, LF, GRAVE, plain, byteKind}
 use Rattle.joiner.specs.Step.{byteStep, stepBy, st, start, reachable, more, pushed, stateAfter, steppedOf}
 
 pub after-append : (s : Joiner) (p q : List ℕ) → stateAfter s (p ++ q) ≡ stateAfter (stateAfter s p) q
@@ -65,7 +65,7 @@ fine-fresh r = record { within = omega arith; full = λ e. absurd (false≢true 
 pub fine-start : Fine start
 fine-start = fine-fresh false
 
-fine-by : (k : Kind) (h : ℕ) (g r o : Bool) (x : ℕ) → Fine (st h g r o) → Fine (stepBy k g r x (st h g r o) .state)
+fine-by : (k : ByteKind) (h : ℕ) (g r o : Bool) (x : ℕ) → Fine (st h g r o) → Fine (stepBy k g r x (st h g r o) .state)
 fine-by CR h true r o x f = fine-clear h true r o f true
 fine-by CR h false r o x f = fine-fresh true
 fine-by LF h g true o x f = record { within = f .within; full = f .full; apart = λ _ e. false≢true e }
@@ -78,7 +78,7 @@ fine-by plain h false r o x f = fine-push h false false o (fine-clear h false r 
 
 pub fine-step : (s : Joiner) (x : ℕ) → Fine s → Fine (byteStep s x .state)
 unfolding byteStep
-fine-step s x f = fine-by (kindOf x) (s .held) (s .grave) (s .cr) (s .over) x f
+fine-step s x f = fine-by (byteKind x) (s .held) (s .grave) (s .cr) (s .over) x f
 
 pub fine-after : (s : Joiner) (p : List ℕ) → Fine s → Fine (stateAfter s p)
 unfolding stateAfter
@@ -120,7 +120,7 @@ step-reachable s x r h e = rw e (of-fine (byteStep s x .state) (fine-step s x (t
 -- ---- a capture for each fine state
 
 one-more : (k : ℕ) → k < 1024 → byteStep (st k false false false) 97 .state ≡ st (k + 1) false false false
-unfolding byteStep kindOf
+unfolding byteStep byteKind
 one-more k h = simp (more-room k h, lt-leb 1024 k h)
 
 fill : (n k : ℕ) → k + n ≤ 1024 → stateAfter (st k false false false) (replicate n 97) ≡ st (k + n) false false false
@@ -139,7 +139,7 @@ filled : (h : ℕ) → h ≤ 1024 → stateAfter start (replicate h 97) ≡ st h
 filled h a = fill h 0 (omega arith) ∙ ap (λ (m : ℕ). st m false false false) (omega arith)
 
 too-long : (h : ℕ) → 1024 ≤ h → stateAfter (st h false false false) (97 ∷ []) ≡ st h false false true
-unfolding stateAfter byteStep kindOf
+unfolding stateAfter byteStep byteKind
 too-long h a = simp (more-full h a, le-leb 1024 h a)
 
 unmarked : (h : ℕ) (o : Bool) → h ≤ 1024 → (o ≡ true → 1024 ≤ h) → Leads (st h false false o)
@@ -151,7 +151,7 @@ unmarked h true a b = (
 
 -- the flags, by a GRAVE or a GRAVE and a CR
 marked : (h : ℕ) (g r o : Bool) → (g ≡ true → r ≡ true → ⊥) → Leads (st h false false o) → Leads (st h g r o)
-unfolding stateAfter byteStep kindOf
+unfolding stateAfter byteStep byteKind
 marked h true true o a l = absurd (a refl refl)
 marked h true false o a l = (l .0 ++ (96 ∷ []), after-append start (l .0) (96 ∷ []) ∙ ap (λ (s : Joiner). stateAfter s (96 ∷ [])) (l .1))
 marked h false true o a l = (l .0 ++ (96 ∷ 13 ∷ []), after-append start (l .0) (96 ∷ 13 ∷ []) ∙ ap (λ (s : Joiner). stateAfter s (96 ∷ 13 ∷ [])) (l .1))

@@ -1,4 +1,4 @@
--- Calls over the parts of a capture, state and buffer handed on from call to call.
+-- Calls over a capture, state and buffer handed on from call to call.
 use Prim.Native.Nat.{ℕ}
 use mathlib.Core.List.{List, [], _∷_, _++_}
 use lib.ListN.{take, drop}
@@ -14,18 +14,17 @@ use Rattle.joiner.specs.Join.{joinOf}
 abbrev pub givenOf : Outcome → List ℕ → List Given
 givenOf More b = []
 givenOf (Line n) b = line (take n b) ∷ []
-givenOf (Refused k n) b = refused (take n b) ∷ []
+givenOf (Refused k n) b = refused k n (take n b) ∷ []
 
 -- what the end of the capture says, as the code has it
 abbrev pub endAs : Ending → End
 endAs cut = the-variants.Cut
 endAs nothing = the-variants.Nothing
 
--- calls from a state and a buffer over parts, the lines that they give and the state that they leave: each call is on what is left of
--- the first part, and a part that is used up goes
-pub data Calls : Joiner → List ℕ → List (List ℕ) → List Given → Joiner → Type 0 where
-  done : {s : Joiner} {b : List ℕ} → Calls s b [] [] s
-  onward : {s s′ : Joiner} {b : List ℕ} {ps : List (List ℕ)} {l : List Given} → Calls s b ps l s′ → Calls s b ([] ∷ ps) l s′
-  call : {s s′ : Joiner} {b : List ℕ} {ps : List (List ℕ)} {l : List Given} (p : List ℕ)
-      → Calls (joinOf s b p .answer .state) (joinOf s b p .buffer) (drop (joinOf s b p .answer .used) p ∷ ps) l s′
-      → Calls s b (p ∷ ps) (givenOf (joinOf s b p .answer .outcome) (joinOf s b p .buffer) ++ l) s′
+-- Calls over what is left of a capture: the bytes that each call sees, from a state and a buffer, the lines that they give and the state that they
+-- leave. A call sees any beginning of what is left, also none of it, as a buffer holds it that is filled again after each call; what it used goes.
+pub data Calls : List ℕ → Joiner → List ℕ → List ℕ → List Given → Joiner → Type 0 where
+  done : {s : Joiner} {b : List ℕ} → Calls [] s b [] [] s
+  call : {s s′ : Joiner} {b c ns : List ℕ} {l : List Given} (n : ℕ)
+      → Calls ns (joinOf s b (take n c) .answer .state) (joinOf s b (take n c) .buffer) (drop (joinOf s b (take n c) .answer .used) c) l s′
+      → Calls (n ∷ ns) s b c (givenOf (joinOf s b (take n c) .answer .outcome) (joinOf s b (take n c) .buffer) ++ l) s′

@@ -7,26 +7,27 @@ use lib.Dec.{ltb, eqb}
 
 -- ---- bytes: a CR is 13, an LF 10, a GRAVE 96. A quote is a byte as any other: it holds no line open
 
-pub data Kind : Type 0 where
-  CR LF GRAVE plain : Kind
+pub data ByteKind : Type 0 where
+  CR LF GRAVE plain : ByteKind
 
-unfoldable pub kindOf : ℕ → Kind
-kindOf x = cond (eqb x 13) CR (cond (eqb x 10) LF (cond (eqb x 96) GRAVE plain))
+unfoldable pub byteKind : ℕ → ByteKind
+byteKind x = cond (eqb x 13) CR (cond (eqb x 10) LF (cond (eqb x 96) GRAVE plain))
 
-abbrev pub isPlain : Kind → Bool
-isPlain CR = false
-isPlain LF = false
-isPlain GRAVE = false
-isPlain plain = true
+abbrev pub isPlainByte : ByteKind → Bool
+isPlainByte CR = false
+isPlainByte LF = false
+isPlainByte GRAVE = false
+isPlainByte plain = true
 
--- ---- a line at its end: it has 0 to 1,024 bytes after joining; a longer one is refused as 1, and of it the first 1,024 bytes are kept
+-- ---- a line at its end: it has 0 to 1,024 bytes after joining; a longer one is refused as 1 at 1,024, and of it the first 1,024 bytes are kept
 
 pub data Given : Type 0 where
   line : List ℕ → Given
-  refused : List ℕ → Given
+  -- its number, its place, and the bytes kept
+  refused : ℕ → ℕ → List ℕ → Given
 
 unfoldable pub lineOrRefused : List ℕ → Given
-lineOrRefused t = cond (ltb 1024 (length t)) (refused (take 1024 t)) (line t)
+lineOrRefused t = cond (ltb 1024 (length t)) (refused 1 1024 (take 1024 t)) (line t)
 
 -- ---- a line that has not ended: its joined text, whether a GRAVE waits for the byte that it escapes, whether the last byte was a CR
 
@@ -38,8 +39,8 @@ pub record Open : Type 0 where
 abbrev pub open′ : List ℕ → Bool → Bool → Open
 open′ t g r = record { text = t; waits = g; wasCr = r }
 
-abbrev pub begin : Open
-begin = open′ [] false false
+abbrev pub nothingOpen : Open
+nothingOpen = open′ [] false false
 
 -- ---- what one byte leaves, and what it gives
 
@@ -56,7 +57,7 @@ abbrev pub ends : List ℕ → Bool → Next
 ends t r = record { left = open′ [] false r; given = lineOrRefused t ∷ [] }
 
 -- by the kind of the byte, whether a GRAVE waits, and whether the last byte was a CR
-abbrev pub nextBy : Kind → Bool → Bool → ℕ → List ℕ → Next
+abbrev pub nextBy : ByteKind → Bool → Bool → ℕ → List ℕ → Next
 -- a CR is an end of line, and so is an LF; an LF directly after a CR is dropped
 nextBy CR false r x t = ends t true
 nextBy LF false false x t = ends t false
@@ -71,17 +72,17 @@ nextBy plain true r x t = goesOn (t ++ (96 ∷ x ∷ [])) false false
 -- any other byte is the line's next
 nextBy plain false r x t = goesOn (t ++ (x ∷ [])) false false
 
-unfoldable pub next : Open → ℕ → Next
-next o x = nextBy (kindOf x) (o .waits) (o .wasCr) x (o .text)
+unfoldable pub nextOpen : Open → ℕ → Next
+nextOpen o x = nextBy (byteKind x) (o .waits) (o .wasCr) x (o .text)
 
 -- ---- the lines of a capture, in order
 
 unfoldable pub linesFrom : Open → List ℕ → List Given
 linesFrom o [] = []
-linesFrom o (x ∷ xs) = next o x .given ++ linesFrom (next o x .left) xs
+linesFrom o (x ∷ xs) = nextOpen o x .given ++ linesFrom (nextOpen o x .left) xs
 
 unfoldable pub linesOf : List ℕ → List Given
-linesOf c = linesFrom begin c
+linesOf c = linesFrom nothingOpen c
 
 -- ---- the end of a capture: `cut` where the joined text is not empty, however long, or a GRAVE waits; otherwise nothing
 
@@ -89,13 +90,13 @@ pub data Ending : Type 0 where
   cut nothing : Ending
 
 unfoldable pub openAfter : Open → List ℕ → Open
-openAfter o c = foldl (λ (o : Open) (x : ℕ). next o x .left) o c
+openAfter o c = foldl (λ (o : Open) (x : ℕ). nextOpen o x .left) o c
 
 unfoldable pub endingFrom : Open → List ℕ → Ending
 endingFrom o c = cond (ltb 0 (length (openAfter o c .text)) || openAfter o c .waits) cut nothing
 
 unfoldable pub endingOf : List ℕ → Ending
-endingOf c = endingFrom begin c
+endingOf c = endingFrom nothingOpen c
 
 -- ---- where trust begins again: a byte that is no GRAVE, CR or LF, and then a CR or LF
 

@@ -8,7 +8,7 @@ use Rattle.joiner.specs.declared.Joiner.{Joiner}
 use Rattle.joiner.specs.declared.Stepped.{Stepped}
 use Rattle.joiner.specs.declared.Outcome.{Outcome}
 use Rattle.joiner.specs.declared.Outcome.the-variants.{More, Line, Refused}
-use Rattle.joiner.specs.Lines.{Kind, CR, LF, GRAVE, plain, kindOf}
+use Rattle.joiner.specs.Lines.{ByteKind, CR, LF, GRAVE, plain, byteKind}
 
 -- a state by its parts: the bytes held, whether a GRAVE waits, whether the last byte was a CR, whether the line is too long
 abbrev pub st : ℕ → Bool → Bool → Bool → Joiner
@@ -39,7 +39,7 @@ stored h b [] = b
 stored h b (x ∷ xs) = stored (more h) (set b h x) xs
 
 -- what a byte does: the next state, the bytes that the line gets, and the line that it ends
-pub record Step : Type 0 where
+pub record Effect : Type 0 where
   pub state : Joiner
   pub put : List ℕ
   pub out : Outcome
@@ -57,19 +57,19 @@ abbrev pub endOut : Bool → Joiner → Outcome
 endOut true s = More
 endOut false s = lineOf (s .over) (s .held)
 
-abbrev pub endStep : Bool → Joiner → Step
+abbrev pub endStep : Bool → Joiner → Effect
 endStep r s = record { state = endState (s .grave) r s; put = []; out = endOut (s .grave) s }
 
 -- the line gets these bytes
-abbrev pub gets : List ℕ → Joiner → Step
+abbrev pub gets : List ℕ → Joiner → Effect
 gets xs s = record { state = pushes (st (s .held) false false (s .over)) xs; put = xs; out = More }
 
 -- nothing but the flags changes: whether a GRAVE waits is as given
-abbrev pub marks : Bool → Joiner → Step
+abbrev pub marks : Bool → Joiner → Effect
 marks g s = record { state = st (s .held) g false (s .over); put = []; out = More }
 
 -- by the kind of the byte, whether a GRAVE waits, and whether the last byte was a CR
-abbrev pub stepBy : Kind → Bool → Bool → ℕ → Joiner → Step
+abbrev pub stepBy : ByteKind → Bool → Bool → ℕ → Joiner → Effect
 stepBy CR g r x s = endStep true s
 stepBy LF g true x s = marks g s
 stepBy LF g false x s = endStep false s
@@ -78,13 +78,13 @@ stepBy GRAVE true r x s = gets (96 ∷ x ∷ []) s
 stepBy plain false r x s = gets (x ∷ []) s
 stepBy plain true r x s = gets (96 ∷ x ∷ []) s
 
-unfoldable pub byteStep : Joiner → ℕ → Step
-byteStep s x = stepBy (kindOf x) (s .grave) (s .cr) x s
+unfoldable pub byteStep : Joiner → ℕ → Effect
+byteStep s x = stepBy (byteKind x) (s .grave) (s .cr) x s
 
 -- the state after a capture, from a state
 unfoldable pub stateAfter : Joiner → List ℕ → Joiner
 stateAfter s c = foldl (λ (s : Joiner) (x : ℕ). byteStep s x .state) s c
 
 -- a step as the code has it
-abbrev pub steppedOf : Step → Stepped
+abbrev pub steppedOf : Effect → Stepped
 steppedOf t = record { state = t .state; outcome = t .out }

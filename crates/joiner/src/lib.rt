@@ -5,7 +5,7 @@ ghost use lib.Dec.{eqb};
 ghost use lib.ListN.{length, getD, set, take, drop};
 ghost use lib.Seq.{sets};
 ghost use Prim.Native.Nat.{ℕ, _+_, _≤_, _<_};
-ghost use Rattle.joiner.specs.Lines.{kindOf, isPlain};
+ghost use Rattle.joiner.specs.Lines.{byteKind, isPlainByte};
 ghost use Rattle.joiner.specs.Step.{start, st, reachable, pushed, byteStep, stored, endStep, marks, steppedOf};
 ghost use Rattle.joiner.specs.Join.{run, joinOf, endOf};
 
@@ -50,7 +50,7 @@ struct Passed {
 
 // Whether a byte is no CR, LF or GRAVE. Most bytes are passed by the first two tests.
 fn ordinary(x: u8) -> bool
-    ensures { λ r. ⌜ r ≡ isPlain (kindOf x) ⌝ }
+    ensures { λ r. ⌜ r ≡ isPlainByte (byteKind x) ⌝ }
 {
     if x == 96 {
         return false;
@@ -114,7 +114,7 @@ fn has(b: [u8; 16], x: u8) -> bool
 
 // Whether a block has no CR, LF or GRAVE.
 fn all_plain(b: [u8; 16]) -> bool
-    ensures { λ r. ⌜ (r ≡ true → (k : ℕ) → k < 16 → isPlain (kindOf (getD b k 0)) ≡ true) ⌝ }
+    ensures { λ r. ⌜ (r ≡ true → (k : ℕ) → k < 16 → isPlainByte (byteKind (getD b k 0)) ≡ true) ⌝ }
 {
     !(has(b, 96) | has(b, 13) | has(b, 10))
 }
