@@ -1,24 +1,12 @@
 // Reads texts, one to a line, and writes what crate `forms` says of each: the tests on the whole text; what its first bytes
 // are as a value, a property and items, for all of them, for a larger number and for half of them; the topic; the target;
 // and the segments at each place where one can begin, at the end and far past it.
-ghost use Prim.Native.Nat.{_≤_};
-ghost use lib.ListN.{length};
 use forms::Piece;
 use forms::Shape;
 use forms::Where;
-
-fn number(n: usize) {
-    io::print_decimal(1, n as u64);
-    io::write_all(1, b" ");
-}
-
-fn flag(b: bool) {
-    if b {
-        number(1);
-    } else {
-        number(0);
-    }
-}
+use showing::flag;
+use showing::line_len;
+use showing::number;
 
 fn shape(s: Shape) {
     match s {
@@ -41,7 +29,6 @@ fn parts(s: &[u8], n: usize) {
     shape(forms::property_of(s, n));
     flag(forms::are_entries(s, n));
     number(forms::entry_len(s, n));
-    number(forms::item_len(s, n));
 }
 
 fn target(w: Where) {
@@ -136,27 +123,12 @@ fn show(t: &[u8]) {
     io::write_all(1, b"\n");
 }
 
-// How many bytes stand before the first LF, or in all.
-fn line_len(s: &[u8]) -> usize
-    ensures { λ r. ⌜ r ≤ length (now (s .entry)) ⌝ }
-{
-    let mut n: usize = 0;
-    while n < s.len() {
-        if s[n] == b'\n' {
-            return n;
-        }
-        n += 1;
-    }
-    n
-}
-
 fn texts(s: &[u8]) {
     let mut at: usize = 0;
     while at < s.len() {
-        let n = line_len(&s[at..]);
-        let e = at + n;
-        show(&s[at..e]);
-        at = e + 1;
+        let end = at + line_len(s, at);
+        show(&s[at..end]);
+        at = end + 1;
     }
 }
 

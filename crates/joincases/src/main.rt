@@ -1,65 +1,16 @@
 // Runs the joiner at its boundaries and writes, for each call, the bytes used, the outcome, the state and the whole
 // line buffer as runs of equal bytes. Each buffer is filled with dots before the first call.
-ghost use Prim.Native.Nat.{_+_, _<_, _≤_};
-ghost use lib.ListN.{length};
+ghost use Prim.Native.Nat.{_≤_};
 use joiner::End;
 use joiner::Joined;
 use joiner::Joiner;
 use joiner::Outcome;
-
-fn number(n: usize) {
-    io::print_decimal(1, n as u64);
-    io::write_all(1, b" ");
-}
-
-fn title(n: usize) {
-    io::write_all(1, b"case ");
-    number(n);
-    io::write_all(1, b"\n");
-}
-
-fn flag(b: bool) {
-    if b {
-        number(1);
-    } else {
-        number(0);
-    }
-}
-
-// How many bytes from `at` on are as the one there.
-fn same(bytes: &[u8], at: usize) -> usize
-    requires { ⌜ at < length (now bytes) ⌝ }
-    ensures { λ r. ⌜ 1 ≤ r ⌝ }
-    ensures { λ r. ⌜ at + r ≤ length (now (bytes .entry)) ⌝ }
-{
-    let x = bytes[at];
-    let mut n = 1;
-    while n < bytes.len() - at {
-        if bytes[at + n] != x {
-            return n;
-        }
-        n += 1;
-    }
-    n
-}
-
-// Writes a run: how many, of which byte.
-fn alike(n: usize, x: u8) {
-    io::write_all(1, b"| ");
-    number(n);
-    number(x as usize);
-}
-
-// Writes bytes as runs.
-fn runs(bytes: &[u8]) {
-    let mut at = 0;
-    while at < bytes.len() {
-        let n = same(bytes, at);
-        alike(n, bytes[at]);
-        at += n;
-    }
-    io::write_all(1, b"\n");
-}
+use showing::flag;
+use showing::number;
+use showing::onward;
+use showing::refusal;
+use showing::runs;
+use showing::title;
 
 fn outcome(o: Outcome) {
     match o {
@@ -74,9 +25,7 @@ fn outcome(o: Outcome) {
             number: k,
             place: p,
         } => {
-            io::write_all(1, b"refused ");
-            number(k as usize);
-            number(p);
+            refusal(k, p);
         }
     }
 }
@@ -98,6 +47,7 @@ fn show(r: Joined, buffer: &[u8]) {
     let s = r.state;
     state(s);
     runs(buffer);
+    io::write_all(1, b"\n");
 }
 
 fn call(s: Joiner, buffer: &mut [u8], part: &[u8]) -> Joiner {
@@ -114,10 +64,7 @@ fn feed(mut s: Joiner, buffer: &mut [u8], part: &[u8]) -> Joiner {
         s = r.state;
         let used = r.used;
         show(r, buffer);
-        if used == 0 {
-            return s;
-        }
-        at += used;
+        at = onward(at, used, part.len());
     }
     s
 }
@@ -134,9 +81,8 @@ fn end(s: Joiner) {
             number: k,
             place: p,
         } => {
-            io::write_all(1, b"  end refused ");
-            number(k as usize);
-            number(p);
+            io::write_all(1, b"  end ");
+            refusal(k, p);
             io::write_all(1, b"\n");
         }
     }
@@ -156,7 +102,7 @@ fn long(n: usize, two: &[u8])
     requires { ⌜ n ≤ 1025 ⌝ }
 {
     let one = [97u8; 1025];
-    capture(&one[..n], two);
+    capture(&one[0..n], two);
 }
 
 // A call from a state, and the end of the capture there.
@@ -296,6 +242,12 @@ fn lengths() {
     end(s);
 }
 
+fn row() {
+    // joins one after another: by LF, by CR, by LF
+    title(29);
+    capture(b"z`\n`\r`\nq\n", b"");
+}
+
 fn main() {
     limit();
     pairs();
@@ -304,4 +256,5 @@ fn main() {
     states();
     impossible();
     lengths();
+    row();
 }

@@ -1,22 +1,21 @@
 // Lists its input in parts of 7 bytes and prints what each call gave at once: the cuts of a capture change nothing that is printed.
-use capture::Stands;
-use capture::end_answer;
-use capture::next_answer;
-use capture::records_text;
 use joiner::Joiner;
 use libc::STDIN_FILENO;
 use libc::STDOUT_FILENO;
+use lister::Stands;
+use lister::end_answer;
+use lister::next_answer;
+use showing::first;
+use showing::onward;
 use text::Answer;
+use wording::records_text;
 
 // Prints records, or that they are bad.
 fn print(records: &[u8], text: &mut [u8]) {
     let a = records_text(records, text);
     match a {
         Answer::Wrote(n) => {
-            if text.len() < n {
-                return;
-            }
-            io::write_all(STDOUT_FILENO, &text[..n]);
+            first(text, n);
         }
         Answer::Refused {
             number: _,
@@ -32,10 +31,9 @@ fn show(s: Stands, room: &[u8], text: &mut [u8]) {
     match s {
         Stands::Nothing => {}
         Stands::Records(n) => {
-            if room.len() < n {
-                return;
+            if n <= room.len() {
+                print(&room[0..n], text);
             }
-            print(&room[..n], text);
         }
         Stands::Refused {
             number: _,
@@ -60,11 +58,8 @@ fn feed(
         state = r.state;
         let used = r.used;
         let s = r.stands;
-        if used == 0 {
-            return state;
-        }
-        at += used;
         show(s, room, text);
+        at = onward(at, used, part.len());
     }
     state
 }

@@ -1,71 +1,17 @@
 // Reads cases from standard input, each the size of the room and the line's length in two bytes, high first, and then the line's
 // bytes, and writes what crate `reading` says of each: the answer, the room filled with dots as runs of equal bytes afterwards,
 // the refusal as a record, a cut as a record, and the target's place and bytes.
-ghost use Prim.Native.Nat.{_+_, _<_, _≤_};
-ghost use lib.ListN.{length};
-use text::Answer;
+use showing::answered;
+use showing::number;
+use showing::part_at;
+use showing::runs;
+use showing::two_at;
 use text::Verdict;
-
-fn number(n: usize) {
-    io::print_decimal(1, n as u64);
-    io::write_all(1, b" ");
-}
-
-// How many bytes from `at` on are as the one there.
-fn same(bytes: &[u8], at: usize) -> usize
-    requires { ⌜ at < length (now bytes) ⌝ }
-    ensures { λ r. ⌜ 1 ≤ r ⌝ }
-    ensures { λ r. ⌜ at + r ≤ length (now (bytes .entry)) ⌝ }
-{
-    let x = bytes[at];
-    let mut n = 1;
-    while n < bytes.len() - at {
-        if bytes[at + n] != x {
-            return n;
-        }
-        n += 1;
-    }
-    n
-}
-
-// Writes a run: how many, of which byte.
-fn alike(n: usize, x: u8) {
-    io::write_all(1, b"| ");
-    number(n);
-    number(x as usize);
-}
-
-// Writes bytes as runs.
-fn runs(bytes: &[u8]) {
-    let mut at = 0;
-    while at < bytes.len() {
-        let n = same(bytes, at);
-        alike(n, bytes[at]);
-        at += n;
-    }
-}
-
-fn answered(a: Answer) {
-    match a {
-        Answer::Wrote(n) => {
-            io::write_all(1, b"wrote ");
-            number(n);
-        }
-        Answer::Refused {
-            number: k,
-            place: p,
-        } => {
-            io::write_all(1, b"refused ");
-            number(k as usize);
-            number(p);
-        }
-    }
-}
 
 // The answer of a read into the first bytes of the room.
 fn read_into(line: &[u8], room: &mut [u8], size: usize) {
     if size <= room.len() {
-        answered(reading::read(line, &mut room[..size]));
+        answered(reading::read(line, &mut room[0..size]));
     }
 }
 
@@ -90,7 +36,7 @@ fn record(k: u8, p: usize) {
 
 fn cut_into(room: &mut [u8], size: usize) {
     if size <= room.len() {
-        answered(reading::put_cut(&mut room[..size]));
+        answered(reading::put_cut(&mut room[0..size]));
     }
 }
 
@@ -135,19 +81,14 @@ fn show(line: &[u8], size: usize) {
 fn cases(input: &[u8]) {
     let mut at: usize = 0;
     while at < input.len() {
-        if input.len() - at < 4 {
+        let p = part_at(input, at, 4, two_at(input, at, 2));
+        if p.cut {
             io::write_all(1, b"short\n");
             return;
         }
-        let size = text::pair(input[at], input[at + 1]);
-        let n = text::pair(input[at + 2], input[at + 3]);
-        let from = at + 4;
-        if input.len() - from < n {
-            io::write_all(1, b"short\n");
-            return;
-        }
-        let end = from + n;
-        show(&input[from..end], size);
+        let start = p.start;
+        let end = p.end;
+        show(&input[start..end], two_at(input, at, 0));
         at = end;
     }
 }

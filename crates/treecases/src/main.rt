@@ -2,22 +2,16 @@
 // two bytes each, high first, then the tree, then the cases. A case is a kind, two numbers and a length, then that many bytes of
 // text: kind 1 the full path of a node into room of a size, kind 2 a text resolved from a default target into a list of a size.
 // All room is lent full of dots, and all lists full of 7s; what they then hold is written as runs of equal values.
-ghost use Prim.Native.Nat.{_+_, _<_, _≤_};
+ghost use Prim.Native.Nat.{_≤_};
 ghost use lib.ListN.{length};
-use text::Answer;
+use showing::answered;
+use showing::list_runs;
+use showing::number;
+use showing::part_at;
+use showing::refusal;
+use showing::two_at;
 use tree::Checked;
 use tree::Resolved;
-
-fn number(n: usize) {
-    io::print_decimal(1, n as u64);
-    io::write_all(1, b" ");
-}
-
-fn refusal(number_of: u8, place: usize) {
-    io::write_all(1, b"refused ");
-    number(number_of as usize);
-    number(place);
-}
 
 fn checked(t: &[u8]) {
     match tree::check(t) {
@@ -29,44 +23,6 @@ fn checked(t: &[u8]) {
             number(p);
             io::write_all(1, b"\n");
         }
-    }
-}
-
-// Writes a run: how many, of which number.
-fn alike(n: usize, x: usize) {
-    io::write_all(1, b"| ");
-    number(n);
-    number(x);
-}
-
-// How many numbers from `at` on are as the one there.
-fn same(list: &[u16], at: usize) -> usize
-    requires { ⌜ at < length (now list) ⌝ }
-    ensures { λ r. ⌜ 1 ≤ r ⌝ }
-    ensures { λ r. ⌜ at + r ≤ length (now (list .entry)) ⌝ }
-{
-    let x = list[at];
-    let mut n = 1;
-    while n < list.len() - at {
-        if list[at + n] != x {
-            return n;
-        }
-        n += 1;
-    }
-    n
-}
-
-fn wide(x: u16) -> usize {
-    x as usize
-}
-
-// Writes a list as runs.
-fn runs(list: &[u16]) {
-    let mut at = 0;
-    while at < list.len() {
-        let n = same(list, at);
-        alike(n, wide(list[at]));
-        at += n;
     }
 }
 
@@ -94,18 +50,7 @@ fn held(room: &[u8]) {
 }
 
 fn written(t: &[u8], node: usize, room: &mut [u8]) {
-    match tree::full_path(t, node, room) {
-        Answer::Wrote(n) => {
-            io::write_all(1, b"wrote ");
-            number(n);
-        }
-        Answer::Refused {
-            number: k,
-            place: p,
-        } => {
-            refusal(k, p);
-        }
-    }
+    answered(tree::full_path(t, node, room));
     held(room);
 }
 
@@ -134,7 +79,7 @@ fn resolved(text: &[u8], t: &[u8], default: usize, list: &mut [u16]) {
             refusal(k, p);
         }
     }
-    runs(list);
+    list_runs(list);
 }
 
 fn resolve(text: &[u8], t: &[u8], default: usize, size: usize) {
@@ -165,20 +110,16 @@ fn group(t: &[u8], cases: &[u8]) {
     checked(t);
     let mut at: usize = 0;
     while at < cases.len() {
-        if cases.len() - at < 7 {
+        let p = part_at(cases, at, 7, two_at(cases, at, 5));
+        if p.cut {
             io::write_all(1, b"cut\n");
             return;
         }
-        let a = text::pair(cases[at + 1], cases[at + 2]);
-        let b = text::pair(cases[at + 3], cases[at + 4]);
-        let n = text::pair(cases[at + 5], cases[at + 6]);
-        let from = at + 7;
-        if cases.len() - from < n {
-            io::write_all(1, b"cut\n");
-            return;
-        }
-        let end = from + n;
-        case(t, cases[at], a, b, &cases[from..end]);
+        let a = two_at(cases, at, 1);
+        let b = two_at(cases, at, 3);
+        let start = p.start;
+        let end = p.end;
+        case(t, cases[at], a, b, &cases[start..end]);
         at = end;
     }
 }
@@ -186,24 +127,16 @@ fn group(t: &[u8], cases: &[u8]) {
 fn groups(input: &[u8]) {
     let mut at: usize = 0;
     while at < input.len() {
-        if input.len() - at < 4 {
+        let t = part_at(input, at, 4, two_at(input, at, 0));
+        let middle = t.end;
+        let c = part_at(input, middle, 0, two_at(input, at, 2));
+        if t.cut | c.cut {
             io::write_all(1, b"cut\n");
             return;
         }
-        let n = text::pair(input[at], input[at + 1]);
-        let m = text::pair(input[at + 2], input[at + 3]);
-        let from = at + 4;
-        if input.len() - from < n {
-            io::write_all(1, b"cut\n");
-            return;
-        }
-        let middle = from + n;
-        if input.len() - middle < m {
-            io::write_all(1, b"cut\n");
-            return;
-        }
-        let end = middle + m;
-        group(&input[from..middle], &input[middle..end]);
+        let start = t.start;
+        let end = c.end;
+        group(&input[start..middle], &input[middle..end]);
         at = end;
     }
 }

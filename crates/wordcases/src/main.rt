@@ -1,15 +1,11 @@
 // Reads texts, one to a line, and writes for each its number as a verb and as an option, and whether it is `all` and
-// `SESSION`; then for each number from 0 to 255 its two names as written into room of 16 bytes, the kind of its argument
-// and its body's length.
-ghost use Prim.Native.Nat.{_≤_};
-ghost use lib.ListN.{length};
+// `SESSION`; then for each number from 0 to 255 its two names as written into room of 16 bytes, the kind of its argument,
+// its body's length and its record's.
+use showing::flag;
+use showing::line_len;
+use showing::number;
 use words::Kind;
 use words::Known;
-
-fn number(n: usize) {
-    io::print_decimal(1, n as u64);
-    io::write_all(1, b" ");
-}
 
 fn known(k: Known) {
     match k {
@@ -19,14 +15,6 @@ fn known(k: Known) {
         Known::Unknown => {
             io::write_all(1, b"- ");
         }
-    }
-}
-
-fn flag(b: bool) {
-    if b {
-        number(1);
-    } else {
-        number(0);
     }
 }
 
@@ -43,27 +31,12 @@ fn text(t: &[u8]) {
     end();
 }
 
-// How many bytes stand before the first LF, or in all.
-fn line_len(s: &[u8]) -> usize
-    ensures { λ r. ⌜ r ≤ length (now (s .entry)) ⌝ }
-{
-    let mut n: usize = 0;
-    while n < s.len() {
-        if s[n] == b'\n' {
-            return n;
-        }
-        n += 1;
-    }
-    n
-}
-
 fn texts(s: &[u8]) {
     let mut at: usize = 0;
     while at < s.len() {
-        let n = line_len(&s[at..]);
-        let e = at + n;
-        text(&s[at..e]);
-        at = e + 1;
+        let end = at + line_len(s, at);
+        text(&s[at..end]);
+        at = end + 1;
     }
 }
 
@@ -90,12 +63,10 @@ fn kind(k: Kind) {
 // The two names of a number, at a place of the room.
 fn names(n: u8, at: usize) {
     let mut v = [b'.'; 16];
-    number(words::verb_name_len(n));
     number(words::put_verb_name(&mut v, at, n));
     io::write_all(1, &v);
     let mut o = [b'.'; 16];
     io::write_all(1, b" ");
-    number(words::option_name_len(n));
     number(words::put_option_name(&mut o, at, n));
     io::write_all(1, &o);
     end();
@@ -106,6 +77,7 @@ fn one(n: u8) {
     number(n as usize);
     kind(words::kind_of(n));
     known(words::body_len(n));
+    number(words::record_len(n));
     end();
     names(n, 0);
     names(n, 10);

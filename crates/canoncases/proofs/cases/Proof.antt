@@ -1,21 +1,24 @@
--- `canoncases::cases` is safe and ends: each line lies inside the input. Assumes nothing.
+-- `canoncases::cases` is safe and ends: a line and its end are no more than what is left. Assumes nothing.
 use borrow.Author.Needs.{needs}
-use Prim.Native.Nat.{_≤_, _-_}
+use Prim.Native.Nat.{_+_, _-_, _≤_}
 use lib.ListN.{length}
 use Rattle.canoncases.proofs.cases.Statement.{statement}
 use Rattle.canoncases.proofs.cases.Tie as tie
 
 abbrev Inv-loop : tie.InvT-loop
-Inv-loop input at₀ at = at ≤ length input
+Inv-loop input at₀ at = at ≤ length input + 1
 
 abbrev μ-loop : tie.MeasureT-loop
-μ-loop input at₀ at = length input - at
+μ-loop input at₀ at = length input + 1 - at
 
 loop-holds : tie.Need-loop-holds Inv-loop μ-loop
 loop-holds c = search needs
 
-line-end-requires : tie.Need-line-end-requires Inv-loop μ-loop
-line-end-requires c κs = search needs
+line-len-requires : tie.Need-line-len-requires Inv-loop μ-loop
+line-len-requires c κs = search needs
+
+add-end : tie.Need-add-end Inv-loop μ-loop
+add-end c = search needs
 
 sub-show : tie.Need-sub-show Inv-loop μ-loop
 sub-show c = search needs
@@ -29,9 +32,6 @@ part-show-end c = search needs
 show-requires : tie.Need-show-requires Inv-loop μ-loop
 show-requires c κs = search needs
 
-returns : tie.Need-returns Inv-loop μ-loop
-returns c = search needs
-
 add-at : tie.Need-add-at Inv-loop μ-loop
 add-at c = search needs
 
@@ -41,8 +41,8 @@ loop-less c = search needs
 loop-again : tie.Need-loop-again Inv-loop μ-loop
 loop-again c = search needs
 
-returns-2 : tie.Need-returns-2 Inv-loop μ-loop
-returns-2 c = search needs
+returns : tie.Need-returns Inv-loop μ-loop
+returns c = search needs
 
 pub cases-spec : {M : Type 1} → statement M
 cases-spec =
@@ -51,13 +51,13 @@ cases-spec =
     Inv-loop
     μ-loop
     loop-holds
-    line-end-requires
+    line-len-requires
+    add-end
     sub-show
     part-show-start
     part-show-end
     show-requires
-    returns
     add-at
     loop-less
     loop-again
-    returns-2)
+    returns)

@@ -1,11 +1,8 @@
--- `listcases::feed` meets its contract.
-use mathlib.Core.Path.{_≡_, refl}
-use Prim.Native.Nat.{_-_, _≤_}
-use native.Mathlib.Omega.{arith}
-use lib.ListN.{length, take, drop}
+-- `listcases::feed` is safe and ends: each call goes on in the part. Assumes nothing.
 use borrow.Author.Needs.{needs}
-use Rattle.text.proofs.Slices.{length-from}
-use Rattle.capture.proofs.ListLaws.{list-within}
+use Prim.Native.Nat.{_-_, _≤_}
+use mathlib.Core.Path.{_≡_, refl}
+use lib.ListN.{length}
 use Rattle.listcases.proofs.feed.Statement.{statement}
 use Rattle.listcases.proofs.feed.Tie as tie
 
@@ -16,19 +13,31 @@ abbrev μ-loop : tie.MeasureT-loop
 μ-loop state₀ line₀ part room₀ text₀ at₀ state line room text at = length part - at
 
 loop-holds : tie.Need-loop-holds Inv-loop μ-loop
-loop-holds c = (omega arith, refl, refl, refl)
+loop-holds c = (search needs, refl, refl, refl)
 
 sub-next-answer : tie.Need-sub-next-answer Inv-loop μ-loop
-sub-next-answer c = omega arith
+sub-next-answer c = search needs
 
 part-next-answer-start : tie.Need-part-next-answer-start Inv-loop μ-loop
-part-next-answer-start c = omega arith
+part-next-answer-start c = search needs
 
 part-next-answer-end : tie.Need-part-next-answer-end Inv-loop μ-loop
-part-next-answer-end c = omega arith
+part-next-answer-end c = search needs
 
 next-answer-requires : tie.Need-next-answer-requires Inv-loop μ-loop
 next-answer-requires c κs = search needs
+
+show-requires : tie.Need-show-requires Inv-loop μ-loop
+show-requires c κs = search needs
+
+onward-requires : tie.Need-onward-requires Inv-loop μ-loop
+onward-requires c κs = search needs
+
+loop-less : tie.Need-loop-less Inv-loop μ-loop
+loop-less c = search needs
+
+loop-again : tie.Need-loop-again Inv-loop μ-loop
+loop-again c = (search needs, search needs, search needs, search needs)
 
 same-length : tie.Need-same-length Inv-loop μ-loop
 same-length c = search needs
@@ -42,36 +51,6 @@ same-length-3 c = search needs
 returns : tie.Need-returns Inv-loop μ-loop
 returns c = search needs
 
-add-at : tie.Need-add-at Inv-loop μ-loop
-add-at c =
-    let l = c .before .before .before .before .before .before .before .before .before .before .before .loop in let a = c .before .before .before .before .before .before .before .before .before .before .before .before .before .before .before .before .args in let n = c .before .before .before .before .before .before .next-answer in let h = list-within (n .result) (l .state) (l .line) (take (length (a .part .now) - l .at) (drop (l .at) (a .part .now))) (l .room) (n .ensures .0) in
-    omega (arith, h, length-from (a .part .now) (l .at), c .before .before .before .before .before .before .before .before .before .before .before .before .before .before .before .before .good)
-
-show-requires : tie.Need-show-requires Inv-loop μ-loop
-show-requires c κs = search needs
-
-loop-less : tie.Need-loop-less Inv-loop μ-loop
-loop-less c =
-    let l = c .before .before .before .before .before .before .before .before .before .before .before .before .before .before .before .before .loop in let a = c .before .before .before .before .before .before .before .before .before .before .before .before .before .before .before .before .before .before .before .before .before .args in let n = c .before .before .before .before .before .before .before .before .before .before .before .next-answer in let h = list-within (n .result) (l .state) (l .line) (take (length (a .part .now) - l .at) (drop (l .at) (a .part .now))) (l .room) (n .ensures .0) in
-    omega (arith, h, length-from (a .part .now) (l .at), c .before .before .before .before .before .if1 .left)
-
-loop-again : tie.Need-loop-again Inv-loop μ-loop
-loop-again c =
-    let l = c .before .before .before .before .before .before .before .before .before .before .before .before .before .before .before .before .loop in let a = c .before .before .before .before .before .before .before .before .before .before .before .before .before .before .before .before .before .before .before .before .before .args in let n = c .before .before .before .before .before .before .before .before .before .before .before .next-answer in let h = list-within (n .result) (l .state) (l .line) (take (length (a .part .now) - l .at) (drop (l .at) (a .part .now))) (l .room) (n .ensures .0) in
-    (omega (arith, h, length-from (a .part .now) (l .at)), search needs, search needs, search needs)
-
-same-length-4 : tie.Need-same-length-4 Inv-loop μ-loop
-same-length-4 c = search needs
-
-same-length-5 : tie.Need-same-length-5 Inv-loop μ-loop
-same-length-5 c = search needs
-
-same-length-6 : tie.Need-same-length-6 Inv-loop μ-loop
-same-length-6 c = search needs
-
-returns-2 : tie.Need-returns-2 Inv-loop μ-loop
-returns-2 c = search needs
-
 pub feed-spec : {M : Type 1} → statement M
 feed-spec =
     tie.close
@@ -83,15 +62,11 @@ feed-spec =
     part-next-answer-start
     part-next-answer-end
     next-answer-requires
+    show-requires
+    onward-requires
+    loop-less
+    loop-again
     same-length
     same-length-2
     same-length-3
-    returns
-    add-at
-    show-requires
-    loop-less
-    loop-again
-    same-length-4
-    same-length-5
-    same-length-6
-    returns-2)
+    returns)

@@ -6,7 +6,7 @@ use native.Mathlib.Omega.{arith}
 use lib.ListN.{length}
 use Rattle.terms.specs.declared.Found.the-variants.{Term}
 use Rattle.terms.specs.Scan.{termAt}
-use Rattle.terms.proofs.TermLaws.{term-within}
+use Rattle.terms.proofs.NextTerm.{term-within}
 use Rattle.termcases.proofs.all_terms.Statement.{statement}
 use Rattle.termcases.proofs.all_terms.Tie as tie
 

@@ -1,4 +1,4 @@
--- `wordcases::texts` is safe and ends: a line and its end are no more than what is left.
+-- `wordcases::texts` is safe and ends: a line and its end are no more than what is left. Assumes nothing.
 use borrow.Author.Needs.{needs}
 use Prim.Native.Nat.{_+_, _-_, _≤_}
 use lib.ListN.{length}
@@ -14,20 +14,11 @@ abbrev μ-loop : tie.MeasureT-loop
 loop-holds : tie.Need-loop-holds Inv-loop μ-loop
 loop-holds c = search needs
 
-sub-line-len : tie.Need-sub-line-len Inv-loop μ-loop
-sub-line-len c = search needs
-
-part-line-len-start : tie.Need-part-line-len-start Inv-loop μ-loop
-part-line-len-start c = search needs
-
-part-line-len-end : tie.Need-part-line-len-end Inv-loop μ-loop
-part-line-len-end c = search needs
-
 line-len-requires : tie.Need-line-len-requires Inv-loop μ-loop
 line-len-requires c κs = search needs
 
-add-e : tie.Need-add-e Inv-loop μ-loop
-add-e c = search needs
+add-end : tie.Need-add-end Inv-loop μ-loop
+add-end c = search needs
 
 sub-text : tie.Need-sub-text Inv-loop μ-loop
 sub-text c = search needs
@@ -60,11 +51,8 @@ texts-spec =
     Inv-loop
     μ-loop
     loop-holds
-    sub-line-len
-    part-line-len-start
-    part-line-len-end
     line-len-requires
-    add-e
+    add-end
     sub-text
     part-text-start
     part-text-end

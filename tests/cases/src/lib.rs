@@ -1,0 +1,7 @@
+//! The stored input of a program of cases where it is bytes that nobody would type: what writes
+//! it, and what the independent reader answers to it.
+
+#![forbid(unsafe_code)]
+
+pub mod tree;
+pub mod tree_answers;
