@@ -7,14 +7,16 @@ use native.Mathlib.Omega.{arith}
 use lib.ListN.{length, getD, drop, drop-of-length-le}
 use borrow.Author.Tests.{eqb-true}
 use Rattle.text.specs.Lists.{anyOf, onto, parts, isNil}
-use Rattle.text.proofs.Basics.{or-l, or-r, no-case, parts-some}
+use Rattle.text.proofs.Tests.{or-l, or-r, no-case}
+use Rattle.text.proofs.Parts.{parts-some}
 use Rattle.text.proofs.Scans.{drop-step}
 use Rattle.terms.specs.declared.Mode.{Mode}
 use Rattle.terms.specs.declared.Mode.the-variants.{Out, OutGrave, In, InGrave}
 use Rattle.terms.specs.Signs.{Sign, bare, after, gives, atEnd, signs, raw}
 use Rattle.terms.specs.Terms.{isGap, Term, termsFrom, termsOf}
 use Rattle.terms.specs.Scan.{isSpace, gapByte}
-use Rattle.terms.proofs.TermLaws.{gives-solid, signs-length}
+use Rattle.terms.proofs.SignBytes.{signs-length}
+use Rattle.terms.proofs.NextTerm.{gives-solid}
 use Rattle.terms.proofs.ByteCases.{end-case}
 
 -- ---- by bytes: between two terms stands a gap, so each but the last takes two signs at least

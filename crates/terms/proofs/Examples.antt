@@ -10,7 +10,8 @@ use Rattle.text.specs.declared.Verdict.{Verdict}
 use Rattle.text.specs.declared.Verdict.the-variants.{Fine, Flawed}
 use Rattle.text.specs.Bytes.{bytes, oneOf}
 use Rattle.text.specs.Lists.{anyOf, upTo, runLen, walk}
-use Rattle.terms.specs.Signs.{twelve, two, after, gives, signs, raws, stands, hasBare}
+use Rattle.terms.specs.declared.Mode.the-variants.{Out}
+use Rattle.terms.specs.Signs.{Sign, twelve, two, after, gives, signs, raws, stands, isBare, hasBare}
 use Rattle.terms.specs.Marks.{hasMark, startsBare}
 use Rattle.terms.specs.Terms.{Term, termsFrom, termsOf}
 use Rattle.terms.specs.Rows.{longFlaw, oddFlaw, endMode, openedAt, openFlaw, manyFrom, manyFlaw, lexicalOf}
@@ -130,3 +131,25 @@ tested =
 pub texts-tested : map {B = Tested} (λ (e : Tested). (e .0, hasBare 61 (bytes (e .0)), hasMark (bytes (e .0)), startsBare 45 (bytes (e .0)), startsBare 96 (bytes (e .0)))) tested ≡ tested
 unfolding bytes oneOf anyOf twelve two after gives signs hasBare hasMark startsBare
 texts-tested = refl
+
+-- a text: has it a bare `"`, and is its first sign one? A quote mark is one; an escaped `"`, in quotes or not, is none
+abbrev Marked : Type 0
+Marked = String × Bool × Bool
+
+abbrev pub marked : List Marked
+marked =
+    ("\"a\"", true, true) ∷
+    ("a\"", true, false) ∷
+    ("a`\"b", false, false) ∷
+    ("`\"", false, false) ∷
+    ("a", false, false) ∷
+    []
+
+pub texts-marked : map {B = Marked} (λ (e : Marked). (e .0, hasBare 34 (bytes (e .0)), startsBare 34 (bytes (e .0)))) marked ≡ marked
+unfolding bytes oneOf anyOf twelve two after gives signs hasBare startsBare
+texts-marked = refl
+
+-- in a quote, an escaped `"` is not bare: all that is bare in `"`"` is its first byte
+pub escaped-in-quote : map (λ (x : Sign). isBare 34 x) (signs Out (bytes "\"`\"")) ≡ true ∷ false ∷ []
+unfolding bytes oneOf two after gives signs
+escaped-in-quote = refl

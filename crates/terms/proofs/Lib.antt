@@ -1,5 +1,9 @@
 pub mod ByteCases
-pub mod TermLaws
+pub mod SignBytes
+pub mod Cuts
+pub mod Bares
+pub mod NextTerm
+pub mod TermList
 pub mod CountLaws
 pub mod ScanLaws
 pub mod Paper

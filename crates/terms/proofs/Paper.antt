@@ -11,7 +11,7 @@ use Rattle.terms.specs.declared.Mode.{Mode}
 use Rattle.terms.specs.declared.Mode.the-variants.{Out, In}
 use Rattle.terms.specs.Signs.{Sign, bare, escaped, quote, quoted, quotedEscaped, twelve, two, oneSign, paperSigns, after, gives, signs}
 use Rattle.text.proofs.Classes.{other-byte}
-use Rattle.terms.proofs.TermLaws.{bare-signs}
+use Rattle.terms.proofs.Bares.{bare-signs}
 
 pub twelve-grave : oneOf twelve 96 ≡ true
 unfolding oneOf twelve bytes

@@ -13,7 +13,7 @@ use Rattle.text.specs.declared.Verdict.{Verdict}
 use Rattle.text.specs.declared.Verdict.the-variants.{Fine, Flawed}
 use Rattle.text.specs.Bytes.{oneOf, printable}
 use Rattle.text.specs.Lists.{allOf, runLen, walk}
-use Rattle.text.proofs.Basics.{no-case}
+use Rattle.text.proofs.Tests.{no-case}
 use Rattle.text.proofs.Classes.{other-byte}
 use Rattle.text.proofs.Scans.{run-within, run-all, all-run, run-fails, walk-over}
 use Rattle.terms.specs.declared.Mode.{Mode}
@@ -23,7 +23,7 @@ use Rattle.terms.specs.Terms.{Term, termsOf}
 use Rattle.terms.specs.Rows.{orElse, longFlaw, oddFlaw, endMode, opens, openedAt, endFlaw, openFlaw, manyFrom, manyFlaw, lexicalOf}
 use Rattle.terms.specs.RowWords.{lineSigns, isLone, endsLone, turns, endsOpen, marked, lastMark, startOf, Row1, Row2, Row3, Row4, Row5, NoRow}
 use Rattle.terms.proofs.Paper.{twelve-grave, two-grave, as-the-paper-says}
-use Rattle.terms.proofs.TermLaws.{pend, gives-width}
+use Rattle.terms.proofs.SignBytes.{pend, gives-width}
 use Rattle.terms.proofs.ByteCases.{gives-case, end-case}
 
 -- ---- row 2: the first byte that fails a test stands where the run of those that pass ends

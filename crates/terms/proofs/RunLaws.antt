@@ -8,7 +8,7 @@ use lib.ListN.{length, take, drop}
 use lib.Seq.{drop-drop}
 use lib.Dec.{eqb}
 use Rattle.text.specs.Lists.{anyOf, runLen, walk}
-use Rattle.text.proofs.Basics.{and-l, and-r}
+use Rattle.text.proofs.Tests.{and-l, and-r}
 use Rattle.text.proofs.Scans.{run-within}
 use Rattle.text.proofs.Slices.{part-from, length-from}
 use Rattle.terms.specs.declared.Mode.the-variants.{Out}

@@ -22,8 +22,8 @@ use Rattle.terms.specs.Marks.{isMark, firstBare, startsBare}
 use Rattle.terms.specs.Terms.{Term}
 use Rattle.terms.specs.Rows.{longFlaw, endMode, opens, openedAt, endFlaw, openFlaw, manyFrom, lexicalOf}
 use Rattle.terms.specs.Scan.{gapByte, termLen, found, startAt, termAt}
-use Rattle.terms.proofs.TermLaws.{pend, stands-on, stands-past, meant-length}
-use Rattle.text.proofs.Basics.{any-over}
+use Rattle.terms.proofs.SignBytes.{pend, stands-on, stands-past, meant-length}
+use Rattle.text.proofs.AllAny.{any-over}
 use Rattle.terms.proofs.ByteCases.{gives-case, out-case, out-grave-case, in-case, in-grave-case, end-case}
 
 -- ---- the term at a place
@@ -108,9 +108,11 @@ module _ (f : Sign → Bool) where
   some-past s i m h = ap (λ (z : List ℕ). anyOf f (signs m z)) (drop-of-length-le s h)
 
 -- what a byte gives outside quotes, what it gives after a GRAVE that does not escape it, and what a lone last GRAVE is
-pub out-is-bare : (n b : ℕ) → (b ≡ 96 → ⊥) → (b ≡ 34 → ⊥) → anyOf (isBare n) (gives Out b) ≡ eqb b n
-unfolding anyOf gives
-out-is-bare n b h k = simp (ne-eqb b 96 h, ne-eqb b 34 k) (or-false (eqb b n))
+pub out-is-bare : (n b : ℕ) → (b ≡ 96 → ⊥) → anyOf (isBare n) (gives Out b) ≡ eqb b n
+unfolding anyOf
+out-is-bare n b h =
+    out-case (λ g m. anyOf (isBare n) g ≡ eqb b n) b (λ p. absurd (h (eqb-true b 96 p))) (λ _ q. or-false (eqb 34 n) ∙ ap (λ (x : ℕ). eqb x n) (sym (eqb-true b 34 q)))
+    (λ _ _. or-false (eqb b n))
 
 pub grave-is-bare : (n b : ℕ) → oneOf twelve b ≡ false → (96 ≡ n → ⊥) → anyOf (isBare n) (gives OutGrave b) ≡ eqb b n
 unfolding anyOf gives
@@ -120,10 +122,14 @@ pub end-is-bare : (n : ℕ) → anyOf (isBare n) (atEnd OutGrave) ≡ eqb 96 n
 unfolding anyOf
 end-is-bare n = or-false (eqb 96 n)
 
--- what a byte gives inside quotes is not bare
-pub in-no-bare : (n b : ℕ) → anyOf (isBare n) (gives In b) ≡ false
+-- what a byte gives inside quotes is not bare, but for the quote mark that closes
+pub in-mark-bare : (n b : ℕ) → b ≡ 34 → anyOf (isBare n) (gives In b) ≡ eqb b n
+unfolding anyOf gives
+in-mark-bare n b e = rw e (or-false (eqb 34 n))
+
+pub in-no-bare : (n b : ℕ) → (b ≡ 34 → ⊥) → anyOf (isBare n) (gives In b) ≡ false
 unfolding anyOf
-in-no-bare n b = in-case (λ g m. anyOf (isBare n) g ≡ false) b (λ _. refl) (λ _ _. refl) (λ _ _. refl)
+in-no-bare n b h = in-case (λ g m. anyOf (isBare n) g ≡ false) b (λ _. refl) (λ _ q. absurd (h (eqb-true b 34 q))) (λ _ _. refl)
 
 pub in-grave-no-bare : (n b : ℕ) → anyOf (isBare n) (gives InGrave b) ≡ false
 unfolding anyOf
@@ -163,7 +169,7 @@ starts-out n [] h k = absurd (h refl)
 starts-out n (b ∷ s) h k = go (eqb b 34) (eqb b n) refl refl
   where
     go : (x y : Bool) → eqb b 34 ≡ x → eqb b n ≡ y → firstBare n (gives Out b ++ signs (after Out b) s) ≡ anyOf (isBare n) (gives Out b)
-    go true y p q = simp (ne-eqb b 96 k, p)
+    go true y p q = simp (ne-eqb b 96 k, p) (sym (or-false (eqb 34 n)))
     go false true p q = simp (ne-eqb b 96 k, p, q)
     go false false p q = simp (ne-eqb b 96 k, p, q)
 

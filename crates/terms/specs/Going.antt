@@ -16,16 +16,16 @@ placeAfter (found.Term a n) at = a + n
 placeAfter found.None at = at
 
 -- the answers of so many calls, the first at this place
-unfoldable pub going : ℕ → List ℕ → ℕ → List Found
-going zero line at = []
-going (suc k) line at = termAt line at ∷ going k line (placeAfter (termAt line at) at)
+unfoldable pub termCalls : ℕ → List ℕ → ℕ → List Found
+termCalls zero line at = []
+termCalls (suc k) line at = termAt line at ∷ termCalls k line (placeAfter (termAt line at) at)
 
 -- how many bytes a term has, and the answer that gives it
 unfoldable pub sizeOf : Term → ℕ
 sizeOf t = length (raws (t .text))
 
-unfoldable pub answerOf : Term → Found
-answerOf t = found.Term (t .start) (sizeOf t)
+unfoldable pub foundTerm : Term → Found
+foundTerm t = found.Term (t .start) (sizeOf t)
 
 -- from a place on to an end: in order, none empty, no two overlapping
 unfoldable pub inOrder : ℕ → ℕ → List Term → Bool

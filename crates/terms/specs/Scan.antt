@@ -1,4 +1,4 @@
--- The term at or after a place, as a scan of the bytes finds it. proofs/TermLaws has it that going on from each end gives the line's terms.
+-- The term at or after a place, as a scan of the bytes finds it. proofs/TermList has it that going on from each end gives the line's terms.
 use Prim.Native.Nat.{ℕ, zero, suc, _+_}
 use mathlib.Core.List.{List, [], _∷_}
 use mathlib.Core.Bool.{Bool, false, cond, not, _&&_}

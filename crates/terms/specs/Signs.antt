@@ -8,7 +8,7 @@ use Rattle.text.specs.Lists.{anyOf}
 use Rattle.terms.specs.declared.Mode.{Mode}
 use Rattle.terms.specs.declared.Mode.the-variants.{Out, OutGrave, In, InGrave}
 
--- A sign stands for one byte, or is a quote mark and stands for none. "Bare" means neither escaped nor quoted.
+-- A sign stands for one byte, or is a quote mark and stands for none. "Bare" means neither escaped nor quoted; a quote mark is a bare `"`.
 pub data Sign : Type 0 where
   bare : ℕ → Sign
   escaped : ℕ → Sign
@@ -39,8 +39,8 @@ abbrev pub oneSign : Bool → ℕ → Sign
 oneSign false b = cond (eqb b 34) quote (bare b)
 oneSign true b = cond (eqb b 34) quote (quoted b)
 
-abbrev pub openAfter : Bool → ℕ → Bool
-openAfter q b = cond (eqb b 34) (not q) q
+abbrev pub quoteAfter : Bool → ℕ → Bool
+quoteAfter q b = cond (eqb b 34) (not q) q
 
 -- Before any other byte, and at the text's end, GRAVE is itself.
 unfoldable pub paperSigns : Bool → List ℕ → List Sign
@@ -48,7 +48,7 @@ paperSigns q [] = []
 paperSigns q (b ∷ []) = oneSign q b ∷ []
 paperSigns q (b ∷ c ∷ s) =
     let pair = pairSign q c ∷ paperSigns q s in
-    let one = oneSign q b ∷ paperSigns (openAfter q b) (c ∷ s) in
+    let one = oneSign q b ∷ paperSigns (quoteAfter q b) (c ∷ s) in
     cond (eqb b 96 && oneOf (escapable q) c) pair one
 
 -- ---- byte by byte, with a mode: what every promise cites. proofs/Paper has it that these are the paper's signs.
@@ -103,11 +103,11 @@ unfoldable pub stands : List Sign → List ℕ
 stands [] = []
 stands (x ∷ xs) = standsFor x ++ stands xs
 
--- is it this bare byte?
+-- is it this bare byte? A quote mark is a bare `"`
 abbrev pub isBare : ℕ → Sign → Bool
 isBare n (bare b) = eqb b n
 isBare n (escaped b) = false
-isBare n quote = false
+isBare n quote = eqb 34 n
 isBare n (quoted b) = false
 isBare n (quotedEscaped b) = false
 

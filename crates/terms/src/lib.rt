@@ -346,13 +346,12 @@ pub fn lexical(line: &[u8]) -> Verdict
     }
 }
 
-// Whether a byte gives the bare byte n: outside quotes, after a GRAVE there, in any mode, and at the text's end.
+// Whether a byte gives the bare byte n: outside quotes, after a GRAVE there, inside quotes, in any mode, and at the text's end.
 fn out_bare(b: u8, n: u8) -> bool
     ensures { λ r. ⌜ r ≡ anyOf (isBare n) (gives Mode.Out b) ⌝ }
 {
     match b {
         b'`' => false,
-        b'"' => false,
         _ => b == n,
     }
 }
@@ -369,13 +368,23 @@ fn grave_bare(b: u8, n: u8) -> bool
     b == n
 }
 
+// Inside quotes nothing is bare but the quote mark that closes.
+fn in_bare(b: u8, n: u8) -> bool
+    ensures { λ r. ⌜ r ≡ anyOf (isBare n) (gives Mode.In b) ⌝ }
+{
+    match b {
+        b'"' => b == n,
+        _ => false,
+    }
+}
+
 fn gives_bare(m: Mode, b: u8, n: u8) -> bool
     ensures { λ r. ⌜ r ≡ anyOf (isBare n) (gives m b) ⌝ }
 {
     match m {
         Mode::Out => out_bare(b, n),
         Mode::OutGrave => grave_bare(b, n),
-        Mode::In => false,
+        Mode::In => in_bare(b, n),
         Mode::InGrave => false,
     }
 }

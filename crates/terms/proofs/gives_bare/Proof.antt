@@ -1,6 +1,6 @@
 -- `terms::gives_bare` meets its contract.
 use mathlib.Core.Path.{sym}
-use Rattle.terms.proofs.ScanLaws.{in-no-bare, in-grave-no-bare}
+use Rattle.terms.proofs.ScanLaws.{in-grave-no-bare}
 use borrow.Author.Needs.{needs}
 use Rattle.terms.proofs.gives_bare.Statement.{statement}
 use Rattle.terms.proofs.gives_bare.Tie as tie
@@ -20,6 +20,9 @@ grave-bare-requires c κs = search needs
 enum-told-3 : tie.Need-enum-told-3
 enum-told-3 c = search needs
 
+in-bare-requires : tie.Need-in-bare-requires
+in-bare-requires c κs = search needs
+
 enum-told-4 : tie.Need-enum-told-4
 enum-told-4 c = search needs
 
@@ -30,7 +33,7 @@ returns-2 : tie.Need-returns-2
 returns-2 c = rw (c .before .enum-told2 .given .1) (c .grave-bare .ensures)
 
 returns-3 : tie.Need-returns-3
-returns-3 c = rw (c .enum-told3 .given .1) (sym (in-no-bare (c .before .before .args .n) (c .before .before .args .b)))
+returns-3 c = rw (c .before .enum-told3 .given .1) (c .in-bare .ensures)
 
 returns-4 : tie.Need-returns-4
 returns-4 c = rw (c .enum-told4 .given .1) (sym (in-grave-no-bare (c .before .before .args .n) (c .before .before .args .b)))
@@ -44,6 +47,7 @@ gives-bare-spec =
     enum-told-2
     grave-bare-requires
     enum-told-3
+    in-bare-requires
     enum-told-4
     returns
     returns-2

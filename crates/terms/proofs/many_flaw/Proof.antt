@@ -13,7 +13,7 @@ use Rattle.terms.specs.Signs.{signs}
 use Rattle.terms.specs.Terms.{termsFrom, termsOf}
 use Rattle.terms.specs.Rows.{manyFrom, manyFlaw}
 use Rattle.terms.specs.Scan.{termAt}
-use Rattle.terms.proofs.TermLaws.{terms-some, terms-none, Within, term-within}
+use Rattle.terms.proofs.NextTerm.{terms-some, terms-none, Within, term-within}
 use Rattle.terms.proofs.CountLaws.{short-few, spaces-few}
 use Rattle.terms.proofs.RowLaws.{many-few}
 use Rattle.terms.proofs.ScanLaws.{many-ends, many-on}

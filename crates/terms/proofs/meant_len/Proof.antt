@@ -5,7 +5,7 @@ use mathlib.Core.Path.{_≡_}
 use native.Mathlib.Omega.{arith}
 use lib.ListN.{length, drop}
 use Rattle.terms.specs.Signs.{signs, stands, meant}
-use Rattle.terms.proofs.TermLaws.{meant-length}
+use Rattle.terms.proofs.SignBytes.{meant-length}
 use Rattle.terms.proofs.ScanLaws.{left-on, left-fits, left-end}
 use Rattle.terms.proofs.meant_len.Statement.{statement}
 use Rattle.terms.proofs.meant_len.Tie as tie

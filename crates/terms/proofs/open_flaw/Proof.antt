@@ -8,7 +8,7 @@ use lib.ListN.{length, drop}
 use lib.Dec.{eqb}
 use borrow.Author.Tests.{eqb-true}
 use Rattle.text.specs.declared.Verdict.the-variants.{Flawed}
-use Rattle.text.proofs.Basics.{no-case}
+use Rattle.text.proofs.Tests.{no-case}
 use Rattle.text.proofs.Scans.{walk-on, run-within}
 use Rattle.terms.specs.declared.Mode.{Mode}
 use Rattle.terms.specs.declared.Mode.the-variants.{Out, OutGrave, In, InGrave}

@@ -12,11 +12,7 @@ unfolding anyOf gives
 returns c = sym (ap (λ x. anyOf (isBare (c .before .args .n)) (gives Out x)) (c .match .keys1))
 
 returns-2 : tie.Need-returns-2
-unfolding anyOf gives
-returns-2 c = sym (ap (λ x. anyOf (isBare (c .before .args .n)) (gives Out x)) (c .match .keys2))
-
-returns-3 : tie.Need-returns-3
-returns-3 c = sym (out-is-bare (c .before .args .n) (c .before .args .b) (c .match .rest .0 .1) (c .match .rest .1))
+returns-2 c = sym (out-is-bare (c .before .args .n) (c .before .args .b) (c .match .rest .1))
 
 pub out-bare-spec : {M : Type 1} → statement M
-out-bare-spec = tie.close (tie.spec returns returns-2 returns-3)
+out-bare-spec = tie.close (tie.spec returns returns-2)

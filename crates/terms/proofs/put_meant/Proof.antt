@@ -7,7 +7,7 @@ use native.Mathlib.Omega.{arith}
 use lib.ListN.{length, getD, drop}
 use lib.Seq.{sets}
 use Rattle.terms.specs.Signs.{signs, stands, meant}
-use Rattle.terms.proofs.TermLaws.{pend, meant-length}
+use Rattle.terms.proofs.SignBytes.{pend, meant-length}
 use Rattle.terms.proofs.ScanLaws.{width-on, left-on, left-fits, left-end, stored-on, stored-end}
 use Rattle.terms.proofs.put_meant.Statement.{statement}
 use Rattle.terms.proofs.put_meant.Tie as tie
