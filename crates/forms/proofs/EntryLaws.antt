@@ -2,26 +2,26 @@
 use Prim.Native.Nat.{ℕ, suc, _+_, _-_, _<_, _≤_}
 use mathlib.Core.Path.{_≡_, refl, sym, ap, _∙_}
 use mathlib.Core.List.{List, [], _∷_, _++_, map}
-use mathlib.Core.Bool.{Bool, true, false, cond, not, _&&_, _||_, and-false, and-true}
+use mathlib.Core.Bool.{Bool, true, false, cond, not, _&&_, and-false, and-true}
 use mathlib.Core.Option.{Option, none, some}
 use native.Mathlib.Omega.{arith}
 use lib.ListN.{length, getD, take, drop, length-take, length-drop, drop-of-length-le}
 use lib.Seq.{take-take, drop-drop}
 use lib.Dec.{eqb}
 use borrow.Author.Tests.{eqb-true, eqb-false, ne-eqb}
-use Rattle.text.specs.Lists.{upTo, parts, onto, isNil, given, every}
-use Rattle.text.proofs.Basics.{or-l, or-r, no-case}
+use Rattle.text.specs.Lists.{onto, isNil, given, every}
+use Rattle.text.proofs.Tests.{no-case}
 use Rattle.text.proofs.Slices.{part-from, drop-take}
 use Rattle.text.proofs.Scans.{drop-step, scan-within}
 use Rattle.terms.specs.declared.Mode.{Mode}
 use Rattle.terms.specs.declared.Mode.the-variants.{Out, OutGrave, In, InGrave}
-use Rattle.terms.specs.Signs.{Sign, bare, escaped, quote, quoted, quotedEscaped, isBare, after, gives, atEnd, signs}
-use Rattle.forms.specs.Forms.{itemsIn, entryOf, entryParts, entriesOf}
+use Rattle.terms.specs.Signs.{Sign, isBare, after, gives, atEnd, signs}
+use Rattle.forms.specs.Forms.{entryOf, entryParts, entriesOf}
 use Rattle.forms.specs.Automata.{isComma, opened, entryLen}
 use Rattle.forms.specs.Answers.{isSome}
-use Rattle.forms.specs.Steps.{bareAt, endsItem, itemLen, isEntryIn}
+use Rattle.forms.specs.Steps.{bareAt, isEntryIn}
 use Rattle.forms.proofs.Lists.{taken-step}
-use Rattle.forms.proofs.TextLaws.{no-comma, no-open, no-close, items-close, items-comma, items-other}
+use Rattle.forms.proofs.TextLaws.{no-comma, no-open, no-close}
 use Rattle.forms.proofs.PropertyLaws.{taken-part}
 use Rattle.terms.proofs.ByteCases.{gives-case, end-case}
 
@@ -219,78 +219,3 @@ module _ (s : List ℕ) (n e at : ℕ) (z : e ≡ length (take n s)) where
           go : (x : Bool) → eqb (at + k) e ≡ x → isSome (entriesOf (signs Out (drop at (take n s)))) ≡ false
           go true p = sym (entries-last (eqb-true (at + k) e p)) ∙ t
           go false p = more h (eqb-false (at + k) e p) ∙ rw t
-
--- ---- the items of a list: s is what follows the opening parenthesis
-
--- what stands at the end of an item: a comma and more items, or nothing that counts
-pub afterItem : List ℕ → List (List Sign)
-afterItem [] = []
-afterItem (c ∷ r) = cond (eqb c 44) (itemsIn (signs Out r)) []
-
-byte-items : (m : Mode) (b : ℕ) (r : List Sign) → endsItem m b ≡ false → itemsIn (gives m b ++ r) ≡ ontoAll (gives m b) (itemsIn r)
-unfolding ontoAll
-byte-items m b r =
-    gives-case (λ k g n. endsItem k b ≡ false → itemsIn (g ++ r) ≡ ontoAll g (itemsIn r)) b (λ _ e. refl) (λ _ _ e. items-other quote r refl refl)
-    (λ _ _ e. items-other (bare b) r (or-r (eqb b 44) (eqb b 41) e) (or-l (eqb b 44) (eqb b 41) e))
-    (λ _ e. items-other (escaped b) r refl refl)
-    (λ p e. items-other (bare 96) (bare b ∷ r) refl refl ∙ ap (onto (bare 96)) (items-other (bare b) r (no-close b p) (no-comma b p)))
-    (λ _ e. refl) (λ _ _ e. items-other quote r refl refl) (λ _ _ e. items-other (quoted b) r refl refl) (λ _ e. items-other (quotedEscaped b) r refl refl)
-    (λ _ e. items-other (quoted 96) (quoted b ∷ r) refl refl ∙ ap (onto (quoted 96)) (items-other (quoted b) r refl refl)) m
-
-end-items : (m : Mode) → itemsIn (atEnd m) ≡ atEnd m ∷ []
-unfolding itemsIn upTo parts
-end-items = end-case (λ m z. itemsIn z ≡ z ∷ []) refl refl refl refl
-
-stop-items : (m : Mode) (b : ℕ) (s : List ℕ) → endsItem m b ≡ true → itemsIn (signs m (b ∷ s)) ≡ atEnd m ∷ afterItem (b ∷ s)
-unfolding signs gives after afterItem
-stop-items Out b s e = go (eqb b 44) refl e
-  where
-    go : (x : Bool) → eqb b 44 ≡ x → x || eqb b 41 ≡ true → itemsIn (gives Out b ++ signs (after Out b) s) ≡ [] ∷ cond (eqb b 44) (itemsIn (signs Out s)) []
-    go true p q =
-        rw p (ap (λ k. itemsIn (gives Out k ++ signs (after Out k) s)) (eqb-true b 44 p) ∙ items-comma (bare 44) (signs Out s) refl refl)
-    go false p q =
-        rw p (ap (λ k. itemsIn (gives Out k ++ signs (after Out k) s)) (eqb-true b 41 q) ∙ items-close (bare 41) (signs Out s) refl)
-stop-items OutGrave b s e = no-case (sym e)
-stop-items In b s e = no-case (sym e)
-stop-items InGrave b s e = no-case (sym e)
-
-item-by : (m : Mode) (s : List ℕ) → itemsIn (signs m s) ≡ signs m (take (itemLen m s) s) ∷ afterItem (drop (itemLen m s) s)
-unfolding signs itemLen afterItem
-item-by m [] = end-items m
-item-by m (b ∷ s) = go (endsItem m b) refl (item-by (after m b) s)
-  where
-    go : (x : Bool) → endsItem m b ≡ x
-        → itemsIn (signs (after m b) s) ≡ signs (after m b) (take (itemLen (after m b) s) s) ∷ afterItem (drop (itemLen (after m b) s) s)
-        → itemsIn (signs m (b ∷ s)) ≡ signs m (take (itemLen m (b ∷ s)) (b ∷ s)) ∷ afterItem (drop (itemLen m (b ∷ s)) (b ∷ s))
-    go true e ih = rw e (stop-items m b s e)
-    go false e ih =
-        rw e (byte-items m b (signs (after m b) s) e ∙ ap (ontoAll (gives m b)) ih
-        ∙ onto-cons (gives m b) (signs (after m b) (take (itemLen (after m b) s) s)) (afterItem (drop (itemLen (after m b) s) s)))
-
--- the first item of a list is that of its own bytes, and the rest follow the comma
-pub item-first : (s : List ℕ) → itemsIn (signs Out s) ≡ signs Out (take (itemLen Out s) s) ∷ afterItem (drop (itemLen Out s) s)
-item-first s = item-by Out s
-
--- by places: a comma follows its first k bytes, a parenthesis does, or nothing
-module _ (u : List ℕ) (k : ℕ) (e : k ≡ itemLen Out u) where
-  pub item-more : k < length u → getD u k 0 ≡ 44 → itemsIn (signs Out u) ≡ signs Out (take k u) ∷ itemsIn (signs Out (drop (k + 1) u))
-  unfolding afterItem
-  item-more h c = item-first u ∙ rw (← e, drop-step u k h, c)
-
-  pub item-last : k < length u → (getD u k 0 ≡ 44 → ⊥) → itemsIn (signs Out u) ≡ signs Out (take k u) ∷ []
-  unfolding afterItem
-  item-last h c = item-first u ∙ rw (← e, drop-step u k h, ne-eqb (getD u k 0) 44 c)
-
-module _ (s : List ℕ) (n i : ℕ) (m : Mode) where
-  pub item-on : (m′ : Mode) → i < length (take n s) → endsItem m (getD s i 0) ≡ false → m′ ≡ after m (getD s i 0)
-      → itemLen m (drop i (take n s)) ≡ suc (itemLen m′ (drop (i + 1) (take n s)))
-  unfolding itemLen
-  item-on m′ h c f = ap (itemLen m) (taken-step s n i h) ∙ rw (c, f)
-
-  pub item-ends : i < length (take n s) → endsItem m (getD s i 0) ≡ true → itemLen m (drop i (take n s)) ≡ 0
-  unfolding itemLen
-  item-ends h c = ap (itemLen m) (taken-step s n i h) ∙ rw c
-
-  pub item-past : length (take n s) ≤ i → itemLen m (drop i (take n s)) ≡ 0
-  unfolding itemLen
-  item-past h = ap (itemLen m) (drop-of-length-le (take n s) h)

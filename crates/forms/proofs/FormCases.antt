@@ -9,7 +9,9 @@ use lib.Dec.{leb}
 use Rattle.text.specs.Bytes.{bytes, sameBytes}
 use Rattle.text.specs.Decimal.{valueFrom}
 use Rattle.text.specs.Lists.{upTo, past, parts, isNil, given}
-use Rattle.text.proofs.Basics.{and-l, and-r, cond-some, none-some, some-from, given-from, nil-is}
+use Rattle.text.proofs.Tests.{and-l, and-r}
+use Rattle.text.proofs.Options.{cond-some, none-some, some-from, given-from}
+use Rattle.text.proofs.AllAny.{nil-is}
 use Rattle.terms.specs.Signs.{Sign, isBare, raws, stands}
 use Rattle.words.specs.Words.{sessionName}
 use Rattle.forms.specs.Forms.{starts, isName, isText, itemsIn, isList, listOf, textOf, Value, one, many, valueOf, hasEq, Said, alone, equals, matches, saidOf, Property, property, propertyOf, topicOf, Entry, entry, entryOf}

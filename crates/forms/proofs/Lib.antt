@@ -6,7 +6,6 @@ pub mod ValueLaws
 pub mod PropertyLaws
 pub mod EntryLaws
 pub mod ArgumentLaws
-pub mod Told
-pub mod ItemLaws
-pub mod TargetBytes
+pub mod SegmentBytes
 pub mod Only
+pub mod Examples

@@ -44,9 +44,6 @@ use Rattle.forms.proofs.entry_len.Reads as entry-len-reads
 use Rattle.forms.proofs.are_entries as are-entries-fn
 use Rattle.forms.proofs.are_entries.Kinds as are-entries-kinds
 use Rattle.forms.proofs.are_entries.Reads as are-entries-reads
-use Rattle.forms.proofs.item_len as item-len-fn
-use Rattle.forms.proofs.item_len.Kinds as item-len-kinds
-use Rattle.forms.proofs.item_len.Reads as item-len-reads
 
 pub segment-at-only :
     (κs : Lifetimes.Lfts 1) (a : World.ArgsD segment-at-fn.signature κs)
@@ -151,11 +148,3 @@ pub are-entries-only :
     → are-entries-reads.Post κs a r s → are-entries-reads.Post κs a r′ s′
     → r ≡ r′
 are-entries-only κs a r r′ s s′ p q = p ∙ sym q
-
-pub item-len-only :
-    (κs : Lifetimes.Lfts 1) (a : World.ArgsD item-len-fn.signature κs)
-    (r r′ : World.ResD item-len-fn.signature κs)
-    (s s′ : Clauses.AtExit (Kinds.endedOf 1 item-len-kinds.ps item-len-kinds.r) κs)
-    → item-len-reads.Post κs a r s → item-len-reads.Post κs a r′ s′
-    → r ≡ r′
-item-len-only κs a r r′ s s′ p q = p ∙ sym q

@@ -12,12 +12,14 @@ use lib.Dec.{eqb, leb, ltb}
 use borrow.Author.Tests.{eqb-true, eq-eqb, ne-eqb, le-leb, lt-leb, leb-true, leb-false, lt-ltb, le-ltb, ltb-true, eqb-false}
 use Rattle.text.specs.Bytes.{isLetter, isWord}
 use Rattle.text.specs.Lists.{allOf, anyOf, upTo, runLen, given}
-use Rattle.text.proofs.Basics.{and-l, and-r, no-case, up-over, up-at, past-at, any-at, all-right}
+use Rattle.text.proofs.Tests.{and-l, and-r, no-case}
+use Rattle.text.proofs.AllAny.{up-over, up-at, past-at, any-at, all-right}
 use Rattle.text.proofs.Classes.{letter-word}
 use Rattle.text.proofs.Scans.{run-within, all-run, run-fails, take-run, drop-step}
 use Rattle.terms.specs.declared.Mode.the-variants.{Out, OutGrave, In}
 use Rattle.terms.specs.Signs.{Sign, bare, isBare, signs, raws, bares}
-use Rattle.terms.proofs.TermLaws.{raws-signs, raws-append, bare-signs, bares-signs, raws-bares, none-bares, bares-alone}
+use Rattle.terms.proofs.SignBytes.{raws-signs, raws-append}
+use Rattle.terms.proofs.Bares.{bare-signs, bares-signs, raws-bares, none-bares, bares-alone}
 use Rattle.terms.proofs.ByteCases.{out-case, grave-first}
 use Rattle.forms.specs.declared.Shape.the-variants as shape
 use Rattle.forms.specs.Forms.{starts, isName, hasEq, Value, valueOf, Said, alone, equals, matches, saidOf, property, propertyOf, topicOf, entry, entryOf}
@@ -283,67 +285,8 @@ said-one t v e = rw (no-start (leb (length t) v) refl)
     no-start true p = ap (λ (z : List ℕ). starts 61 (signs Out z)) (drop-of-length-le t (leb-true (length t) v p)) ∙ unfold signs in refl
     no-start false p =
         let h = leb-false (length t) v p in
-        ap (λ (z : List ℕ). starts 61 (signs Out z)) (drop-step t v h) ∙ starts-byte 61 (getD t v 0) (drop (v + 1) t) refl refl
+        ap (λ (z : List ℕ). starts 61 (signs Out z)) (drop-step t v h) ∙ starts-byte 61 (getD t v 0) (drop (v + 1) t) refl
         ∙ ne-eqb (getD t v 0) 61 (equal-not t v h e)
-
--- ---- what a property's text is: nothing, or its name, operator and value
-
--- a value stands after a name of k bytes and an operator of o bytes
-pub record Valued (t : List ℕ) (k o : ℕ) (value : Value) : Type 0 where
-  pub named : Named t k
-  pub sign : getD t k 0 ≡ 61
-  pub within : k + o ≤ length t
-  pub is : valueOf (signs Out (drop (k + o) t)) ≡ some value
-
--- by what a text begins with: no name, a name alone, a name before something else, a name before `=`
-name-case : {P : Type 0} (t : List ℕ) → (nameLen t ≡ 0 → P) → ((k : ℕ) → Named t k → k ≡ length t → P) → ((k : ℕ) → Named t k → k < length t → (getD t k 0 ≡ 61 → ⊥) → P)
-    → ((k : ℕ) → Named t k → k < length t → getD t k 0 ≡ 61 → P) → P
-name-case {P = P} t none′ mere other equal = start (eqb (nameLen t) 0) refl
-  where
-    after-name : (x y : Bool) → leb (length t) (nameLen t) ≡ x → eqb (getD t (nameLen t) 0) 61 ≡ y → Named t (nameLen t) → P
-    after-name true y p q n = let h = leb-true (length t) (nameLen t) p in let w = n .within in mere (nameLen t) n (omega arith)
-    after-name false true p q n = equal (nameLen t) n (leb-false (length t) (nameLen t) p) (eqb-true (getD t (nameLen t) 0) 61 q)
-    after-name false false p q n = other (nameLen t) n (leb-false (length t) (nameLen t) p) (eqb-false (getD t (nameLen t) 0) 61 q)
-
-    start : (x : Bool) → eqb (nameLen t) 0 ≡ x → P
-    start true p = none′ (eqb-true (nameLen t) 0 p)
-    start false p =
-        after-name (leb (length t) (nameLen t)) (eqb (getD t (nameLen t) 0) 61) refl refl (named t (nameLen t) refl (eqb-false (nameLen t) 0 p))
-
-module _ {P : Type 0} (t : List ℕ) where
-  pub property-case : (propertyOf (signs Out t) ≡ none → P)
-      → ((k : ℕ) → Named t k → k ≡ length t → propertyOf (signs Out t) ≡ some (property (take k t) alone) → P)
-      → ((k : ℕ) (v : Value) → Valued t k 1 v → propertyOf (signs Out t) ≡ some (property (take k t) (equals v)) → P)
-      → ((k : ℕ) (v : Value) → Valued t k 2 v → propertyOf (signs Out t) ≡ some (property (take k t) (matches v)) → P) → P
-  property-case bad mere one two =
-      name-case t (λ e. bad (unnamed-property t e)) (λ k n z. mere k n z (mere-property t k n z)) (λ k n h d. bad (other-property t k n h d))
-      (λ k n h d. gave k n h d (equalAt t (k + 1)) refl (valueOf (signs Out (drop (k + cond (equalAt t (k + 1)) 2 1) t))) refl)
-    where
-      gave : (k : ℕ) → Named t k → k < length t → getD t k 0 ≡ 61 → (b : Bool) → equalAt t (k + 1) ≡ b → (o : Option Value) → valueOf (signs Out (drop (k + cond b 2 1) t)) ≡ o → P
-      gave k n h d true e o p = go o p
-        where
-          plus : drop (k + 1 + 1) t ≡ drop (k + 2) t
-          plus = let z : k + 1 + 1 ≡ k + 2 = omega arith in ap (λ (j : ℕ). drop j t) z
-
-          go : (o : Option Value) → valueOf (signs Out (drop (k + 2) t)) ≡ o → P
-          go none p = bad (said-property t k n h d ∙ rw (said-two t (k + 1) e, plus, p))
-          go (some v) p =
-              two k v (record { named = n; sign = d; within = let q = equal-there t (k + 1) e in omega (arith, q .0); is = p })
-              (said-property t k n h d ∙ rw (said-two t (k + 1) e, plus, p))
-      gave k n h d false e none p = bad (said-property t k n h d ∙ rw (said-one t (k + 1) e, p))
-      gave k n h d false e (some v) p =
-          one k v (record { named = n; sign = d; within = omega arith; is = p }) (said-property t k n h d ∙ rw (said-one t (k + 1) e, p))
-
-  pub entry-case : (entryOf (signs Out t) ≡ none → P)
-      → ((k : ℕ) → Named t k → k ≡ length t → entryOf (signs Out t) ≡ some (entry (take k t) none) → P)
-      → ((k : ℕ) (v : Value) → Valued t k 1 v → entryOf (signs Out t) ≡ some (entry (take k t) (some v)) → P) → P
-  entry-case bad mere one =
-      name-case t (λ e. bad (unnamed-entry t e)) (λ k n z. mere k n z (mere-entry t k n z)) (λ k n h d. bad (other-entry t k n h d))
-      (λ k n h d. gave k n h d (valueOf (signs Out (drop (k + 1) t))) refl)
-    where
-      gave : (k : ℕ) → Named t k → k < length t → getD t k 0 ≡ 61 → (o : Option Value) → valueOf (signs Out (drop (k + 1) t)) ≡ o → P
-      gave k n h d none p = bad (valued-entry t k n h d ∙ rw p)
-      gave k n h d (some v) p = one k v (record { named = n; sign = d; within = omega arith; is = p }) (valued-entry t k n h d ∙ rw p)
 
 -- ---- each answer of the code; the text is the first n bytes of s
 

@@ -14,7 +14,8 @@ use Rattle.text.specs.declared.Number.the-variants as number
 use Rattle.text.specs.Bytes.{bytes, sameBytes, isLetter}
 use Rattle.text.specs.Lists.{anyOf, upTo, parts, runLen, isNil}
 use Rattle.text.specs.Decimal.{valueFrom, isDecimal, decimalOf}
-use Rattle.text.proofs.Basics.{and-l, no-case, parts-at, parts-none, parts-some}
+use Rattle.text.proofs.Tests.{and-l, no-case}
+use Rattle.text.proofs.Parts.{parts-at, parts-none, parts-some}
 use Rattle.text.proofs.Slices.{part-from, part-between, length-between}
 use Rattle.text.proofs.Decimals.{value-most, told-is, told-no}
 use Rattle.text.proofs.Scans.{run-within}
@@ -22,9 +23,9 @@ use Rattle.words.specs.Words.{sessionName}
 use Rattle.forms.specs.declared.Piece.{Piece}
 use Rattle.forms.specs.declared.Piece.the-variants as piece
 use Rattle.forms.specs.declared.Where.the-variants as where′
-use Rattle.forms.specs.Targets.{isSeparator, tagLen, isTagLen, isNumbered, isStarred, isSegment, areSegments, segmentOf, path, segmentsOf, pathOf, targetOf}
-use Rattle.forms.specs.Answers.{pieceOf, segmentText, segmentAt, whereOf, targetIn}
-use Rattle.forms.specs.Steps.{isNumber, numberOf, afterTag, isInner, isLast, pathFrom}
+use Rattle.forms.specs.Targets.{isSeparator, tagLen, isTagLen, isNumber, isNumbered, isStarred, isSegment, areSegments, segmentOf, path, segmentsOf, pathOf, targetOf}
+use Rattle.forms.specs.Answers.{pieceOf, segmentText, segmentAt, whereOf, whereIn}
+use Rattle.forms.specs.Steps.{numberOf, afterTag, isInner, isLast, pathFrom}
 use Rattle.forms.proofs.Lists.{up-take, up-within, up-none, up-next}
 
 -- ---- one segment's text
@@ -33,18 +34,12 @@ tag-length : (s : List ℕ) → length (take (tagLen s) s) ≡ tagLen s
 unfolding tagLen
 tag-length s = length-take-le (runLen isLetter s) s (run-within isLetter s)
 
-numbered-by : (s : List ℕ) → isNumbered s ≡ isTagLen (tagLen s) && isNumber (drop (tagLen s) s)
-unfolding isNumbered isNumber
-numbered-by s =
-    let e : tagLen s + 0 ≡ tagLen s = omega arith in
-    ap (λ (b : ℕ). isTagLen (tagLen s) && (isDecimal 65535 (drop (tagLen s) s) && not (eqb b 48))) (sym (getD-drop (tagLen s) s 0 0 ∙ ap (λ (k : ℕ). getD s k 0) e))
-
 -- a segment as its tag and what follows the tag say
 piece-by : (n : ℕ) (s : List ℕ) → pieceOf n (segmentOf s)
     ≡ cond (sameBytes s (bytes ".")) (piece.Here n)
     (cond (sameBytes s (bytes "..")) (piece.Above n)
     (cond (isTagLen (tagLen s)) (afterTag n (tagLen s) (drop (tagLen s) s)) piece.No))
-unfolding segmentOf afterTag isStarred
+unfolding segmentOf afterTag isStarred isNumbered
 piece-by n s = go (sameBytes s (bytes ".")) (sameBytes s (bytes "..")) (isTagLen (tagLen s)) (isNumber (drop (tagLen s) s)) (sameBytes (drop (tagLen s) s) (bytes "*")) refl refl refl refl refl
   where
     go : (a b c d e : Bool) → sameBytes s (bytes ".") ≡ a → sameBytes s (bytes "..") ≡ b → isTagLen (tagLen s) ≡ c → isNumber (drop (tagLen s) s) ≡ d
@@ -55,10 +50,10 @@ piece-by n s = go (sameBytes s (bytes ".")) (sameBytes s (bytes "..")) (isTagLen
         (cond (isTagLen (tagLen s)) (afterTag n (tagLen s) (drop (tagLen s) s)) piece.No))
     go true b c d e p q r t u = simp p
     go false true c d e p q r t u = simp (p, q)
-    go false false false d e p q r t u = simp (p, q, numbered-by s, r)
-    go false false true true e p q r t u = simp (p, q, numbered-by s, r, t, tag-length s)
-    go false false true false true p q r t u = simp (p, q, numbered-by s, r, t, u, tag-length s)
-    go false false true false false p q r t u = simp (p, q, numbered-by s, r, t, u)
+    go false false false d e p q r t u = simp (p, q, r)
+    go false false true true e p q r t u = simp (p, q, r, t, tag-length s)
+    go false false true false true p q r t u = simp (p, q, r, t, u, tag-length s)
+    go false false true false false p q r t u = simp (p, q, r, t, u)
 
 module _ (n : ℕ) (s : List ℕ) where
   pub piece-here : sameBytes s (bytes ".") ≡ true → piece.Here n ≡ pieceOf n (segmentOf s)
@@ -108,11 +103,11 @@ last-by n s = go (sameBytes s (bytes ".")) (sameBytes s (bytes "..")) (isNumbere
 
 module _ (d : List ℕ) where
   pub number-zero : eqb (getD d 0 0) 48 ≡ true → number.No ≡ numberOf d
-  unfolding numberOf isNumber
+  unfolding numberOf
   number-zero e = sym (rw e (ap (λ (b : Bool). cond b (number.Is (valueFrom 0 d)) number.No) (and-false (isDecimal 65535 d))))
 
   pub number-plain : eqb (getD d 0 0) 48 ≡ false → decimalOf 65535 d ≡ numberOf d
-  unfolding numberOf isNumber decimalOf
+  unfolding numberOf decimalOf
   number-plain e = sym (rw e (ap (λ (b : Bool). cond b (number.Is (valueFrom 0 d)) number.No) (and-true (isDecimal 65535 d))))
 
   number-is : (v : ℕ) → number.Is v ≡ numberOf d → (isNumber d ≡ true) × (v ≡ valueFrom 0 d)
@@ -126,7 +121,7 @@ module _ (d : List ℕ) where
   pub number-most : (v : ℕ) → number.Is v ≡ numberOf d → v ≤ 65535
   number-most v e =
       let i = number-is v e in
-      let m = value-most 65535 d (and-l (isDecimal 65535 d) (not (eqb (getD d 0 0) 48)) (unfold isNumber in i .0)) in
+      let m = value-most 65535 d (and-l (isDecimal 65535 d) (not (eqb (getD d 0 0) 48)) (i .0)) in
       omega (arith, i .1)
 
   pub tag-number : (n k v : ℕ) → number.Is v ≡ numberOf d → piece.Child n k v ≡ afterTag n k d
@@ -146,26 +141,14 @@ pub piece-past : (t : List ℕ) (at : ℕ) → length t ≤ at → segmentAt t a
 unfolding segmentAt segmentText upTo segmentOf sameBytes bytes isNumbered isStarred tagLen runLen
 piece-past t at h = rw (drop-of-length-le t h)
 
--- ---- a is the run of bytes before the next separator
-
-pub segments-last : (a : List ℕ) → anyOf isSeparator a ≡ false → areSegments (parts isSeparator a) ≡ isSegment a || isStarred a
-unfolding areSegments
-segments-last a n = rw (parts-none isSeparator a n)
+-- ---- a segment before others
 
 segments-cons : (a : List ℕ) (ps : List (List ℕ)) → isNil ps ≡ false → areSegments (a ∷ ps) ≡ isSegment a && areSegments ps
 unfolding areSegments
 segments-cons a [] e = no-case e
 segments-cons a (p ∷ ps) e = refl
 
-pub segments-more : (a : List ℕ) (x : ℕ) (b : List ℕ) → anyOf isSeparator a ≡ false → isSeparator x ≡ true
-    → areSegments (parts isSeparator (a ++ (x ∷ b))) ≡ isSegment a && areSegments (parts isSeparator b)
-segments-more a x b n e = ap areSegments (parts-at isSeparator a x b n e) ∙ segments-cons a (parts isSeparator b) (parts-some isSeparator b)
-
-pub segments-count : (a : List ℕ) (x : ℕ) (b : List ℕ) → anyOf isSeparator a ≡ false → isSeparator x ≡ true
-    → length (parts isSeparator (a ++ (x ∷ b))) ≡ suc (length (parts isSeparator b))
-segments-count a x b n e = ap length (parts-at isSeparator a x b n e)
-
--- ---- the same by places: n bytes from a place on are the segment there
+-- ---- n bytes from a place on are the segment there
 
 module _ (t : List ℕ) (at n : ℕ) (e : n ≡ length (segmentText t at)) where
   pub segment-text : take n (drop at t) ≡ segmentText t at
@@ -272,29 +255,29 @@ path-full rooted k s h = go (parts isSeparator s) (parts-some isSeparator s)
     go (a ∷ p) e = rw (lt-leb (k + suc (length p)) 16 (omega arith), and-false (areSegments (a ∷ p)))
 
 -- a target by its first byte
-pub target-session : (t : List ℕ) → sameBytes t sessionName ≡ true → where′.Session ≡ targetIn t
-unfolding targetIn targetOf
+pub target-session : (t : List ℕ) → sameBytes t sessionName ≡ true → where′.Session ≡ whereIn t
+unfolding whereIn targetOf
 target-session t e = sym (rw e)
 
-pub target-empty : (t : List ℕ) → sameBytes t sessionName ≡ false → length t ≡ 0 → where′.No ≡ targetIn t
-unfolding targetIn targetOf pathOf
+pub target-empty : (t : List ℕ) → sameBytes t sessionName ≡ false → length t ≡ 0 → where′.No ≡ whereIn t
+unfolding whereIn targetOf pathOf
 target-empty [] e h = sym (rw e)
 target-empty (b ∷ t) e h = absurd (omega arith)
 
-pub target-path : (t : List ℕ) → sameBytes t sessionName ≡ false → (length t ≡ 0 → ⊥) → isSeparator (getD t 0 0) ≡ false → whereOf (segmentsOf false (drop 0 t)) ≡ targetIn t
-unfolding targetIn targetOf pathOf
+pub target-path : (t : List ℕ) → sameBytes t sessionName ≡ false → (length t ≡ 0 → ⊥) → isSeparator (getD t 0 0) ≡ false → whereOf (segmentsOf false (drop 0 t)) ≡ whereIn t
+unfolding whereIn targetOf pathOf
 target-path [] e h s = absurd (h refl)
 target-path (b ∷ t) e h s = sym (rw (e, s))
 
-pub target-root : (t : List ℕ) → sameBytes t sessionName ≡ false → isSeparator (getD t 0 0) ≡ true → length t ≡ 1 → where′.Path true 0 ≡ targetIn t
-unfolding targetIn targetOf pathOf
+pub target-root : (t : List ℕ) → sameBytes t sessionName ≡ false → isSeparator (getD t 0 0) ≡ true → length t ≡ 1 → where′.Path true 0 ≡ whereIn t
+unfolding whereIn targetOf pathOf
 target-root [] e s h = absurd (omega arith)
 target-root (b ∷ []) e s h = sym (rw (e, s))
 target-root (b ∷ d ∷ t) e s h = absurd (omega arith)
 
 pub target-rooted : (t : List ℕ) → sameBytes t sessionName ≡ false → isSeparator (getD t 0 0) ≡ true → (length t ≡ 0 → ⊥) → (length t ≡ 1 → ⊥)
-    → whereOf (segmentsOf true (drop 1 t)) ≡ targetIn t
-unfolding targetIn targetOf pathOf
+    → whereOf (segmentsOf true (drop 1 t)) ≡ whereIn t
+unfolding whereIn targetOf pathOf
 target-rooted [] e s h k = absurd (h refl)
 target-rooted (b ∷ []) e s h k = absurd (k refl)
 target-rooted (b ∷ d ∷ t) e s h k = sym (rw (e, s))

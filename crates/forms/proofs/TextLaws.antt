@@ -10,7 +10,8 @@ use lib.Dec.{eqb, leb}
 use borrow.Author.Tests.{eqb-true, ne-eqb}
 use Rattle.text.specs.Bytes.{bytes, oneOf}
 use Rattle.text.specs.Lists.{allOf, anyOf, upTo, past, onto, parts, isNil}
-use Rattle.text.proofs.Basics.{no-case, parts-some}
+use Rattle.text.proofs.Tests.{no-case}
+use Rattle.text.proofs.Parts.{parts-some}
 use Rattle.terms.specs.declared.Mode.{Mode}
 use Rattle.terms.specs.declared.Mode.the-variants.{Out, OutGrave, In, InGrave}
 use Rattle.terms.specs.Signs.{Sign, bare, escaped, quote, quoted, quotedEscaped, isBare, twelve, after, gives, atEnd, signs}
@@ -26,17 +27,17 @@ use Rattle.terms.proofs.ByteCases.{gives-case, out-case, grave-first, end-case}
 -- ---- a quoted string or plain
 
 from-dead : (t : List Sign) → textFrom Dead t ≡ false
-unfolding textFrom
+unfolding textOver
 from-dead [] = refl
 from-dead (x ∷ t) = from-dead t
 
 from-ended : (t : List Sign) → textFrom Ended t ≡ isNil t
-unfolding textFrom
+unfolding textOver
 from-ended [] = refl
 from-ended (x ∷ t) = from-dead t
 
 from-plain : (t : List Sign) → textFrom Plain t ≡ allOf isPlainSign t
-unfolding textFrom allOf
+unfolding textOver allOf
 from-plain [] = refl
 from-plain (x ∷ t) = go (isPlainSign x) refl (from-plain t)
   where
@@ -45,7 +46,7 @@ from-plain (x ∷ t) = go (isPlainSign x) refl (from-plain t)
     go false e ih = rw e (from-dead t)
 
 from-inside : (t : List Sign) → textFrom Inside t ≡ endsQuote t
-unfolding textFrom endsQuote
+unfolding textOver endsQuote
 from-inside [] = refl
 from-inside (bare b ∷ t) = from-dead t
 from-inside (escaped b ∷ t) = from-dead t
@@ -54,7 +55,7 @@ from-inside (quoted b ∷ t) = from-inside t
 from-inside (quotedEscaped b ∷ t) = from-inside t
 
 pub text-from : (t : List Sign) → textFrom Start t ≡ isText t
-unfolding textFrom isText allOf isPlainSign
+unfolding textOver isText allOf isPlainSign
 text-from [] = refl
 text-from (bare b ∷ t) = go (isPlainSign (bare b)) refl
   where
@@ -67,14 +68,9 @@ text-from (quoted b ∷ t) = from-dead t
 text-from (quotedEscaped b ∷ t) = from-dead t
 
 over : (q : At) (a r : List Sign) → textFrom q (a ++ r) ≡ textFrom (textOver q a) r
-unfolding textFrom textOver
+unfolding textOver
 over q [] r = refl
 over q (x ∷ a) r = over (textStep q x) a r
-
-ends : (q : At) (a : List Sign) → textFrom q a ≡ whole (textOver q a)
-unfolding textFrom textOver
-ends q [] = refl
-ends q (x ∷ a) = ends (textStep q x) a
 
 -- what is quoted counts the same, escaped or not
 pub quoted-both : (q : At) (b : ℕ) → textStep q (quotedEscaped b) ≡ textStep q (quoted b)
@@ -96,7 +92,7 @@ module _ (s : List ℕ) (n i : ℕ) (m : Mode) (q : At) where
 
   pub text-past : length (take n s) ≤ i → textFrom q (signs m (drop i (take n s))) ≡ textEnd q m
   unfolding signs textEnd
-  text-past h = ap (λ z. textFrom q (signs m z)) (drop-of-length-le (take n s) h) ∙ ends q (atEnd m)
+  text-past h = ap (λ z. textFrom q (signs m z)) (drop-of-length-le (take n s) h)
 
 -- ---- lists
 
@@ -110,7 +106,7 @@ first-start [] e = no-case e
 first-start (p ∷ ps) e = rw (text-from p)
 
 first-onto : (q : At) (x : Sign) (ps : List (List Sign)) → isNil ps ≡ false → firstFrom q (onto x ps) ≡ firstFrom (textStep q x) ps
-unfolding firstFrom textFrom
+unfolding firstFrom textOver
 first-onto q x [] e = no-case e
 first-onto q x (p ∷ ps) e = refl
 
@@ -153,7 +149,7 @@ ListBy : At → ℕ → List Sign → Bool
 ListBy q k t = anyOf (isBare 41) t && (isNil (past (isBare 41) t) && (firstFrom q (itemsIn t) && leb (k + length (itemsIn t)) 16))
 
 list-by : (q : At) (k : ℕ) (t : List Sign) → listFrom q k t ≡ ListBy q k t
-unfolding listFrom anyOf past ListBy firstFrom textFrom allOf
+unfolding listFrom anyOf past ListBy firstFrom textOver allOf
 list-by q k [] = refl
 list-by q k (x ∷ xs) = go (isBare 41 x) (isBare 44 x) refl refl (list-by Start (suc k) xs) (list-by (textStep q x) k xs)
   where

@@ -14,19 +14,19 @@ use Rattle.terms.specs.Signs.{signs, stands}
 use Rattle.forms.specs.Forms.{starts, isText, itemsIn, isList, listOf, textOf, one, many, valueOf}
 use Rattle.forms.specs.Answers.{isSome, isValueIn}
 use Rattle.terms.proofs.ByteCases.{out-case, grave-first}
-use Rattle.terms.proofs.TermLaws.{bare-signs}
+use Rattle.terms.proofs.Bares.{bare-signs}
 
 -- ---- the first sign of a text
 
 grave-starts : (k : ℕ) (s : List ℕ) → eqb 96 k ≡ false → starts k (signs OutGrave s) ≡ false
 grave-starts k s e = grave-first (λ z. starts k z ≡ false) (λ r. e) (λ b r. refl) s
 
--- it is a bare byte k where the first byte is k, for every k but GRAVE and `"`
-pub starts-byte : (k b : ℕ) (s : List ℕ) → eqb 96 k ≡ false → eqb 34 k ≡ false → starts k (signs Out (b ∷ s)) ≡ eqb b k
+-- it is a bare byte k where the first byte is k, for every k but GRAVE
+pub starts-byte : (k b : ℕ) (s : List ℕ) → eqb 96 k ≡ false → starts k (signs Out (b ∷ s)) ≡ eqb b k
 unfolding signs
-starts-byte k b s e f =
+starts-byte k b s e =
     out-case (λ g m. starts k (g ++ signs m s) ≡ eqb b k) b (λ p. grave-starts k s e ∙ sym (ap (λ z. eqb z k) (eqb-true b 96 p) ∙ e))
-    (λ _ q. sym (ap (λ z. eqb z k) (eqb-true b 34 q) ∙ f)) (λ _ _. refl)
+    (λ _ q. sym (ap (λ z. eqb z k) (eqb-true b 34 q))) (λ _ _. refl)
 
 -- ---- a value
 
@@ -37,7 +37,7 @@ some-if false a = refl
 pub value-text : (t : List ℕ) → (getD t 0 0 ≡ 40 → ⊥) → isSome (valueOf (signs Out t)) ≡ isText (signs Out t)
 unfolding valueOf textOf
 value-text [] h = unfold signs in some-if (isText []) (one (stands []))
-value-text (b ∷ t) h = rw (starts-byte 40 b t refl refl, ne-eqb b 40 h) (some-if (isText (signs Out (b ∷ t))) (one (stands (signs Out (b ∷ t)))))
+value-text (b ∷ t) h = rw (starts-byte 40 b t refl, ne-eqb b 40 h) (some-if (isText (signs Out (b ∷ t))) (one (stands (signs Out (b ∷ t)))))
 
 pub value-list : (t : List ℕ) → getD t 0 0 ≡ 40 → isSome (valueOf (signs Out t)) ≡ isList (signs Out (drop 1 t))
 unfolding valueOf listOf

@@ -31,21 +31,18 @@ abbrev pub shapeOf : Option Property → declaredShape.Shape
 shapeOf none = shape.No
 shapeOf (some p) = shape.Is (length (p .name)) (operatorOf (p .said))
 
--- the text that is the first n bytes of s: a part of a line from where it begins
-abbrev pub textIn : List ℕ → ℕ → List ℕ
-textIn s n = take n s
-
+-- the text is the first n bytes of s: a part of a line from where it begins
 unfoldable pub propertyIn : List ℕ → ℕ → declaredShape.Shape
-propertyIn s n = shapeOf (propertyOf (signs Out (textIn s n)))
+propertyIn s n = shapeOf (propertyOf (signs Out (take n s)))
 
 unfoldable pub topicIn : List ℕ → declaredShape.Shape
 topicIn t = shapeOf (topicOf (signs Out t))
 
 unfoldable pub isValueIn : List ℕ → ℕ → Bool
-isValueIn s n = isSome (valueOf (signs Out (textIn s n)))
+isValueIn s n = isSome (valueOf (signs Out (take n s)))
 
 unfoldable pub areEntriesIn : List ℕ → ℕ → Bool
-areEntriesIn s n = isSome (entriesOf (signs Out (textIn s n)))
+areEntriesIn s n = isSome (entriesOf (signs Out (take n s)))
 
 -- a target as the code gives it
 abbrev pub whereOf : Option Target → declaredWhere.Where
@@ -53,8 +50,8 @@ whereOf none = where′.No
 whereOf (some session) = where′.Session
 whereOf (some (path rooted ss)) = where′.Path rooted (length ss)
 
-unfoldable pub targetIn : List ℕ → declaredWhere.Where
-targetIn t = whereOf (targetOf t)
+unfoldable pub whereIn : List ℕ → declaredWhere.Where
+whereIn t = whereOf (targetOf t)
 
 -- the segment at a place of a path: n bytes up to the next separator or the end
 abbrev pub pieceOf : ℕ → Option Segment → declaredPiece.Piece

@@ -35,17 +35,16 @@ whole Inside = false
 whole Ended = true
 whole Dead = false
 
-unfoldable pub textFrom : At → List Sign → Bool
-textFrom q [] = whole q
-textFrom q (x ∷ t) = textFrom (textStep q x) t
-
--- some signs more, and the end of a text
+-- some signs more; all of them; and the end of a text, where a GRAVE may wait
 unfoldable pub textOver : At → List Sign → At
 textOver q [] = q
 textOver q (x ∷ xs) = textOver (textStep q x) xs
 
+abbrev pub textFrom : At → List Sign → Bool
+textFrom q t = whole (textOver q t)
+
 unfoldable pub textEnd : At → Mode → Bool
-textEnd q m = whole (textOver q (atEnd m))
+textEnd q m = textFrom q (atEnd m)
 
 -- ---- the rest of a list; k items came before this one
 

@@ -1,17 +1,17 @@
 -- What the code's own steps answer, one test at a time. proofs/ has it that together they are the forms of specs/Forms and specs/Targets.
-use Prim.Native.Nat.{ℕ, suc, _+_}
-use mathlib.Core.List.{List, [], _∷_}
-use mathlib.Core.Bool.{Bool, true, false, cond, not, _&&_, _||_}
-use lib.ListN.{length, getD}
+use Prim.Native.Nat.{ℕ, _+_}
+use mathlib.Core.List.{List}
+use mathlib.Core.Bool.{Bool, true, false, cond, _&&_}
+use lib.ListN.{length, getD, take}
 use lib.Dec.{eqb, leb, ltb}
 use Rattle.text.specs.declared.Number.{Number}
 use Rattle.text.specs.declared.Number.the-variants as number
 use Rattle.text.specs.Bytes.{bytes, sameBytes, isLetter, isWord}
 use Rattle.text.specs.Lists.{parts, runLen}
-use Rattle.text.specs.Decimal.{valueFrom, isDecimal}
+use Rattle.text.specs.Decimal.{valueFrom}
 use Rattle.terms.specs.declared.Mode.{Mode}
 use Rattle.terms.specs.declared.Mode.the-variants.{Out, OutGrave, In, InGrave}
-use Rattle.terms.specs.Signs.{signs, after, gives}
+use Rattle.terms.specs.Signs.{signs, gives}
 use Rattle.forms.specs.declared.At.{At}
 use Rattle.forms.specs.declared.At.the-variants.{Start, Dead}
 use Rattle.forms.specs.declared.Shape.{Shape}
@@ -21,16 +21,13 @@ use Rattle.forms.specs.declared.Piece.the-variants as piece
 use Rattle.forms.specs.declared.Where.{Where}
 use Rattle.forms.specs.declared.Where.the-variants as where′
 use Rattle.forms.specs.Forms.{entryOf}
-use Rattle.forms.specs.Targets.{isSeparator, areSegments}
+use Rattle.forms.specs.Targets.{isSeparator, isNumber, areSegments}
 use Rattle.forms.specs.Automata.{whole, textOver}
-use Rattle.forms.specs.Answers.{isSome, textIn}
+use Rattle.forms.specs.Answers.{isSome}
 
 -- ---- segments
 
--- a tag's number: 1 to 65,535 without leading zero
-unfoldable pub isNumber : List ℕ → Bool
-isNumber d = isDecimal 65535 d && not (eqb (getD d 0 0) 48)
-
+-- a tag's number
 unfoldable pub numberOf : List ℕ → Number
 numberOf d = cond (isNumber d) (number.Is (valueFrom 0 d)) number.No
 
@@ -77,7 +74,7 @@ shapeIf good name operator = cond good (shape.Is name operator) shape.No
 
 -- is the text of one item of display or output of its form?
 unfoldable pub isEntryIn : List ℕ → ℕ → Bool
-isEntryIn s n = isSome (entryOf (signs Out (textIn s n)))
+isEntryIn s n = isSome (entryOf (signs Out (take n s)))
 
 -- ---- a scan's byte
 
@@ -100,11 +97,3 @@ listStep q m b = cond (bareAt 44 m b) (nextItem q) (textOver q (gives m b))
 -- how many items came before
 unfoldable pub itemsAfter : ℕ → Mode → ℕ → ℕ
 itemsAfter k m b = cond (bareAt 44 m b) (k + 1) k
-
--- how many bytes an item has: up to a bare comma or closing parenthesis
-abbrev pub endsItem : Mode → ℕ → Bool
-endsItem m b = bareAt 44 m b || bareAt 41 m b
-
-unfoldable pub itemLen : Mode → List ℕ → ℕ
-itemLen m [] = 0
-itemLen m (b ∷ s) = let more = suc (itemLen (after m b) s) in cond (endsItem m b) 0 more

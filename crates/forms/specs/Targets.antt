@@ -23,8 +23,11 @@ abbrev pub isTagLen : ℕ → Bool
 isTagLen n = leb 1 n && leb n 16
 
 -- with a number 1 to 65,535 without leading zero
+abbrev pub isNumber : List ℕ → Bool
+isNumber d = isDecimal 65535 d && not (eqb (getD d 0 0) 48)
+
 unfoldable pub isNumbered : List ℕ → Bool
-isNumbered s = isTagLen (tagLen s) && (isDecimal 65535 (drop (tagLen s) s) && not (eqb (getD s (tagLen s) 0) 48))
+isNumbered s = isTagLen (tagLen s) && isNumber (drop (tagLen s) s)
 
 -- or, as the last segment, with `*`
 unfoldable pub isStarred : List ℕ → Bool

@@ -9,8 +9,8 @@ ghost use Rattle.terms.specs.Signs.{bare, escaped, quote, quoted, gives, signs}
 ghost use Rattle.forms.specs.Forms.{isName, isKeep, isLevel, isPlace, isPlainSign, isText, isList};
 ghost use Rattle.forms.specs.Targets.{isSeparator, isTagLen, segmentOf, segmentsOf};
 ghost use Rattle.forms.specs.Automata.{textStep, whole, textOver, textEnd, isComma, opened, entryLen};
-ghost use Rattle.forms.specs.Answers.{pieceOf, segmentText, segmentAt, whereOf, targetIn, isValueIn, propertyIn, topicIn, areEntriesIn};
-ghost use Rattle.forms.specs.Steps.{numberOf, afterTag, isInner, isLast, bareAt, nextItem, listStep, itemsAfter, endsItem, itemLen, nameLen, equalAt, shapeIf, isEntryIn};
+ghost use Rattle.forms.specs.Answers.{pieceOf, segmentText, segmentAt, whereOf, whereIn, isValueIn, propertyIn, topicIn, areEntriesIn};
+ghost use Rattle.forms.specs.Steps.{numberOf, afterTag, isInner, isLast, bareAt, nextItem, listStep, itemsAfter, nameLen, equalAt, shapeIf, isEntryIn};
 use terms::Mode;
 use terms::has_quote;
 use terms::is_twelve;
@@ -220,7 +220,7 @@ fn path_at(t: &[u8], from: usize, rooted: bool) -> Where
 
 // A target: `SESSION` or a path.
 pub fn target_of(t: &[u8]) -> Where
-    ensures { λ r. ⌜ r ≡ targetIn (now (t .entry)) ⌝ }
+    ensures { λ r. ⌜ r ≡ whereIn (now (t .entry)) ⌝ }
 {
     if is_session(t) {
         return Where::Session;
@@ -706,31 +706,4 @@ pub fn are_entries(s: &[u8], n: usize) -> bool
         }
         at = comma + 1;
     }
-}
-
-fn ends_item(m: Mode, b: u8) -> bool
-    ensures { λ r. ⌜ r ≡ endsItem m b ⌝ }
-{
-    if is_bare(m, b, b',') {
-        return true;
-    }
-    is_bare(m, b, b')')
-}
-
-// How many of the first n bytes of s are the first item of a list: those before a bare comma or closing parenthesis.
-pub fn item_len(s: &[u8], n: usize) -> usize
-    ensures { λ r. ⌜ r ≡ itemLen Out (take n (now (s .entry))) ⌝ }
-{
-    let end = end_of(s, n);
-    let mut i: usize = 0;
-    let mut m = Mode::Out;
-    while i < end {
-        let b = s[i];
-        if ends_item(m, b) {
-            return i;
-        }
-        m = step(m, b);
-        i += 1;
-    }
-    i
 }

@@ -1,3 +1,4 @@
-pub mod RowLaws
 pub mod WordLaws
+pub mod RowLaws
+pub mod Examples
 pub mod OnlyResults

@@ -21,21 +21,18 @@ use Rattle.words.proofs.option.Reads as option-reads
 use Rattle.words.proofs.kind_of as kind-of-fn
 use Rattle.words.proofs.kind_of.Kinds as kind-of-kinds
 use Rattle.words.proofs.kind_of.Reads as kind-of-reads
-use Rattle.words.proofs.verb_name_len as verb-name-len-fn
-use Rattle.words.proofs.verb_name_len.Kinds as verb-name-len-kinds
-use Rattle.words.proofs.verb_name_len.Reads as verb-name-len-reads
 use Rattle.words.proofs.put_verb_name as put-verb-name-fn
 use Rattle.words.proofs.put_verb_name.Kinds as put-verb-name-kinds
 use Rattle.words.proofs.put_verb_name.Reads as put-verb-name-reads
-use Rattle.words.proofs.option_name_len as option-name-len-fn
-use Rattle.words.proofs.option_name_len.Kinds as option-name-len-kinds
-use Rattle.words.proofs.option_name_len.Reads as option-name-len-reads
 use Rattle.words.proofs.put_option_name as put-option-name-fn
 use Rattle.words.proofs.put_option_name.Kinds as put-option-name-kinds
 use Rattle.words.proofs.put_option_name.Reads as put-option-name-reads
 use Rattle.words.proofs.body_len as body-len-fn
 use Rattle.words.proofs.body_len.Kinds as body-len-kinds
 use Rattle.words.proofs.body_len.Reads as body-len-reads
+use Rattle.words.proofs.record_len as record-len-fn
+use Rattle.words.proofs.record_len.Kinds as record-len-kinds
+use Rattle.words.proofs.record_len.Reads as record-len-reads
 
 pub verb-only :
     (κs : Lifetimes.Lfts 1) (a : World.ArgsD verb-fn.signature κs)
@@ -77,14 +74,6 @@ pub kind-of-only :
     → r ≡ r′
 kind-of-only κs a r r′ s s′ p q = p ∙ sym q
 
-pub verb-name-len-only :
-    (κs : Lifetimes.Lfts 0) (a : World.ArgsD verb-name-len-fn.signature κs)
-    (r r′ : World.ResD verb-name-len-fn.signature κs)
-    (s s′ : Clauses.AtExit (Kinds.endedOf 0 verb-name-len-kinds.ps verb-name-len-kinds.r) κs)
-    → verb-name-len-reads.Post κs a r s → verb-name-len-reads.Post κs a r′ s′
-    → r ≡ r′
-verb-name-len-only κs a r r′ s s′ p q = p ∙ sym q
-
 pub put-verb-name-only :
     (κs : Lifetimes.Lfts 1) (a : World.ArgsD put-verb-name-fn.signature κs)
     (r r′ : World.ResD put-verb-name-fn.signature κs)
@@ -92,14 +81,6 @@ pub put-verb-name-only :
     → put-verb-name-reads.Post κs a r s → put-verb-name-reads.Post κs a r′ s′
     → (r ≡ r′) × (now (s .0) ≡ now (s′ .0))
 put-verb-name-only κs a r r′ s s′ p q = (p .0 ∙ sym (q .0), p .1 ∙ sym (q .1))
-
-pub option-name-len-only :
-    (κs : Lifetimes.Lfts 0) (a : World.ArgsD option-name-len-fn.signature κs)
-    (r r′ : World.ResD option-name-len-fn.signature κs)
-    (s s′ : Clauses.AtExit (Kinds.endedOf 0 option-name-len-kinds.ps option-name-len-kinds.r) κs)
-    → option-name-len-reads.Post κs a r s → option-name-len-reads.Post κs a r′ s′
-    → r ≡ r′
-option-name-len-only κs a r r′ s s′ p q = p ∙ sym q
 
 pub put-option-name-only :
     (κs : Lifetimes.Lfts 1) (a : World.ArgsD put-option-name-fn.signature κs)
@@ -116,3 +97,11 @@ pub body-len-only :
     → body-len-reads.Post κs a r s → body-len-reads.Post κs a r′ s′
     → r ≡ r′
 body-len-only κs a r r′ s s′ p q = p ∙ sym q
+
+pub record-len-only :
+    (κs : Lifetimes.Lfts 0) (a : World.ArgsD record-len-fn.signature κs)
+    (r r′ : World.ResD record-len-fn.signature κs)
+    (s s′ : Clauses.AtExit (Kinds.endedOf 0 record-len-kinds.ps record-len-kinds.r) κs)
+    → record-len-reads.Post κs a r s → record-len-reads.Post κs a r′ s′
+    → r ≡ r′
+record-len-only κs a r r′ s s′ p q = p ∙ sym q

@@ -1,85 +1,125 @@
--- The tables' rules, each one computed over the whole table, and what a search among names or rows does. Assumes nothing.
+-- The tables: their rows are those of the numbers, computed over the whole table; what a row says; and a search among rows. Assumes nothing.
 use Prim.Native.Nat.{ℕ, zero, suc, _+_, _-_, _<_, _≤_}
 use mathlib.Core.Path.{_≡_, refl, sym, ap, _∙_}
-use mathlib.Core.List.{List, [], _∷_, map}
-use mathlib.Core.Bool.{Bool, true, false, cond, not, _&&_, and-false, and-true}
+use mathlib.Core.List.{List, [], _∷_, _++_, append-assoc}
+use mathlib.Core.Bool.{Bool, true, false, cond, not, _&&_, and-true}
 use mathlib.Core.Option.{Option, none, some}
 use native.Mathlib.Omega.{arith}
-use lib.ListN.{length, getD, take, drop, List·getD-map, List·getD-eq-default, length-drop, drop-of-length-le}
-use lib.Seq.{length-take-le}
-use lib.Dec.{eqb, leb}
-use borrow.Author.Tests.{eq-eqb, ne-eqb, eqb-true, eqb-false, leb-true}
+use lib.ListN.{length, getD, take, drop, replicate, length-append, length-replicate, List·getD-map, List·getD-eq-default, length-drop}
+use lib.Seq.{length-take-le, take-append-seam, getD-append-add}
+use lib.Dec.{eqb}
+use borrow.Author.Tests.{eq-eqb, ne-eqb, eqb-true, eqb-false}
 use Rattle.text.specs.Bytes.{bytes, sameBytes}
-use Rattle.text.specs.Lists.{isNil, allOf}
-use Rattle.text.proofs.Basics.{and-l, and-r, no-case, either}
-use Rattle.text.proofs.Scans.{step-of, same-length, all-at, getD-within}
-use Rattle.words.specs.declared.Kind.the-variants.{Mere}
+use Rattle.text.specs.Lists.{isNil}
+use Rattle.text.proofs.Tests.{no-case}
+use Rattle.text.proofs.Scans.{getD-within}
+use Rattle.words.specs.declared.Kind.{Kind}
+use Rattle.words.specs.declared.Kind.the-variants.{Mere, Keep, Level, Place, Entries}
 use Rattle.words.specs.declared.Known.the-variants.{Is, Unknown}
 use Rattle.words.specs.Tables.{known}
-use Rattle.words.specs.Words.{verbNames, longNames, shortNames, names, find, or, verbOf, optionOf, kinds, kindOf, verbName, optionName, bodies, bodyOf}
-use Rattle.words.specs.Rows.{verbRows, rowsFor, optionRows, kindAt, rowName, rowKind, rowNames, findRow, findOf, bodyBytes, bodyAt}
+use Rattle.words.specs.Words.{longNames, shortNames, names, find, or, verbOf, optionOf, kinds, kindOf, verbName, optionName, shortName, bodies, bodyOf, lenWith, recordLen}
+use Rattle.words.specs.Rows.{padded, verbRow, optionRow, kindNumber, kindAt, rowName, rowNames, bodyBytes, bodyAt}
+use Rattle.words.proofs.WordLaws.{verb-again, verb-only-name, verb-short, verb-out, option-shape, option-short, option-out, short-out, options-long, options-short, kind-out}
 
--- a test passed by each number below n
-unfoldable pub below : (ℕ → Bool) → ℕ → Bool
-below f zero = true
-below f (suc n) = f n && below f n
+-- ---- the tables
 
-pub below-at : (f : ℕ → Bool) (n : ℕ) → below f n ≡ true → (i : ℕ) → i < n → f i ≡ true
-unfolding below
-below-at f zero e i h = absurd (omega arith)
-below-at f (suc n) e i h =
-    either (eqb i n) (λ t. ap f (eqb-true i n t) ∙ and-l (f n) (below f n) e)
-    (λ t. let d = eqb-false i n t in below-at f n (and-r (f n) (below f n) e) i (omega (arith, d)))
+-- the rows of m numbers from k on
+unfoldable pub rowsFrom : (ℕ → List ℕ) → ℕ → ℕ → List (List ℕ)
+rowsFrom row k zero = []
+rowsFrom row k (suc m) = row k ∷ rowsFrom row (suc k) m
 
--- ---- names
+rows-from : (row : ℕ → List ℕ) (k m i : ℕ) (d : List ℕ) → i < m → getD (rowsFrom row k m) i d ≡ row (k + i)
+unfolding rowsFrom
+rows-from row k zero i d h = absurd (omega arith)
+rows-from row k (suc m) zero d h = let e : k ≡ k + 0 = omega arith in ap row e
+rows-from row k (suc m) (suc i) d h = let e : suc k + i ≡ k + suc i = omega arith in rows-from row (suc k) m i d (omega arith) ∙ ap row e
 
--- a name of another length names nothing here
-pub names-length : (name s : List ℕ) → (length s ≡ length name → ⊥) → names name s ≡ false
-unfolding names
-names-length name s h = ap (λ (b : Bool). not (isNil name) && b) (same-length s name h) ∙ and-false (not (isNil name))
+-- the row at a number is the row of that number
+pub rows-at : (row : ℕ → List ℕ) (m n : ℕ) → n < m → getD (rowsFrom row 0 m) n [] ≡ row n
+rows-at row m n h = let e : 0 + n ≡ n = omega arith in rows-from row 0 m n [] h ∙ ap row e
 
--- a text is one of the names of its own length or none
-pub find-of : (n k : ℕ) (ns : List (List ℕ)) (s : List ℕ) → length s ≡ n → find k ns s ≡ findOf n k ns s
-unfolding find findOf
-find-of n k [] s e = refl
-find-of n k (name ∷ ns) s e = go (eqb (length name) n) refl (find-of n (suc k) ns s e)
+-- where no verb, no option has the number, it is all zeros
+pub verb-zeros : (n : ℕ) → 13 < n → replicate 8 0 ≡ verbRow n
+unfolding verbRow
+verb-zeros n h = rw (verb-out n h)
+
+pub option-zeros : (n : ℕ) → 12 < n → replicate 16 0 ≡ optionRow n
+unfolding optionRow
+option-zeros n h = rw (option-out n h, short-out n h, kind-out n h)
+
+-- ---- what a row says
+
+padded-length : (n : ℕ) (name : List ℕ) → length name ≤ n → length (padded n name) ≡ n
+padded-length n name h = omega (arith, length-append name (replicate (n - length name) 0), length-replicate {A = ℕ} (n - length name) 0)
+
+-- its name, which is shorter than it
+pub verb-row-name : (n : ℕ) → rowName (verbRow n) ≡ verbName n
+unfolding verbRow
+verb-row-name n = take-append-seam (verbName n) (replicate (7 - length (verbName n)) 0)
+
+pub verb-row-fits : (n : ℕ) → getD (verbRow n) 0 0 < length (verbRow n)
+unfolding verbRow
+verb-row-fits n = omega (arith, verb-short n, padded-length 7 (verbName n) (verb-short n))
+
+pub option-row-name : (n : ℕ) → rowName (optionRow n) ≡ optionName n
+unfolding optionRow
+option-row-name n =
+    let long = optionName n in
+    let zeros : List ℕ = replicate (11 - length long) 0 in
+    let rest : List ℕ = getD (shortName n) 0 0 ∷ kindNumber (kindOf n) ∷ 0 ∷ 0 ∷ [] in
+    ap (take (length long)) (append-assoc long zeros rest) ∙ take-append-seam long (zeros ++ rest)
+
+pub option-row-fits : (n : ℕ) → getD (optionRow n) 0 0 < length (optionRow n)
+unfolding optionRow
+option-row-fits n =
+    let long = optionName n in
+    let rest : List ℕ = getD (shortName n) 0 0 ∷ kindNumber (kindOf n) ∷ 0 ∷ 0 ∷ [] in
+    omega (arith, option-short n, padded-length 11 long (option-short n), length-append (padded 11 long) rest)
+
+-- an option has a name of 1 to 11 bytes
+pub option-row-long : (n : ℕ) → 1 ≤ n → n ≤ 12 → (0 < getD (optionRow n) 0 0) × (getD (optionRow n) 0 0 ≤ 11)
+unfolding optionRow
+option-row-long n a b = (some-bytes (optionName n) (option-shape n a b .0), option-short n)
   where
-    go : (t : Bool) → eqb (length name) n ≡ t → find (suc k) ns s ≡ findOf n (suc k) ns s → find k (name ∷ ns) s ≡ findOf n k (name ∷ ns) s
-    go true q ih = rw (q, ih)
-    go false q ih = let l = eqb-false (length name) n q in simp (q, names-length name s (λ p. l (sym p ∙ e))) ih
+    some-bytes : (s : List ℕ) → isNil s ≡ false → 0 < length s
+    some-bytes [] e = no-case e
+    some-bytes (x ∷ s) e = omega arith
 
--- no verb is shorter than 2 bytes or longer than 7
-pub no-verb : (s : List ℕ) → (length s ≡ 2 → ⊥) → (length s ≡ 3 → ⊥) → (length s ≡ 4 → ⊥) → (length s ≡ 5 → ⊥) → (length s ≡ 6 → ⊥) → (length s ≡ 7 → ⊥)
-    → verbOf s ≡ none
-unfolding verbOf findOf verbNames bytes
-no-verb s a b c d e f =
-    let out : (n : ℕ) → (length s ≡ n → ⊥) → eqb n (length s) ≡ false = λ n h. ne-eqb n (length s) (λ p. h (sym p)) in
-    find-of (length s) 1 verbNames s refl ∙ simp (out 2 a, out 3 b, out 4 c, out 5 d, out 6 e, out 7 f)
+-- the kind of its argument
+pub option-row-kind : (n : ℕ) → kindAt (getD (optionRow n) 13 0) ≡ kindOf n
+unfolding optionRow kindAt
+option-row-kind n =
+    let long = optionName n in
+    let rest : List ℕ = getD (shortName n) 0 0 ∷ kindNumber (kindOf n) ∷ 0 ∷ 0 ∷ [] in
+    let e : 12 ≡ length (padded 11 long) + 1 = omega (arith, padded-length 11 long (option-short n)) in
+    ap kindAt (ap (λ i. getD (padded 11 long ++ rest) i 0) e ∙ getD-append-add (padded 11 long) rest 1 0) ∙ again (kindOf n)
+  where
+    again : (k : Kind) → kindAt (kindNumber k) ≡ k
+    again Mere = refl
+    again Keep = refl
+    again Level = refl
+    again Place = refl
+    again Entries = refl
 
--- ---- the options' rows
+-- a row's first byte is how long its name is
+pub row-length : (row : List ℕ) → getD row 0 0 < length row → getD row 0 0 ≡ length (rowName row)
+row-length row h = sym (length-take-le (getD row 0 0) (drop 1 row) (omega (arith, length-drop 1 row)))
 
--- a row can be read: 16 bytes, and a long name of 1 to 11
-rowFits : List ℕ → Bool
-rowFits row = eqb (length row) 16 && (leb 1 (getD row 0 0) && leb (getD row 0 0) 11)
+-- a number that is no kind's stands for none
+pub kind-rest : (n : ℕ) → (n ≡ 1 → ⊥) → (n ≡ 2 → ⊥) → (n ≡ 3 → ⊥) → (n ≡ 4 → ⊥) → kindAt n ≡ Mere
+unfolding kindAt
+kind-rest zero a b c d = refl
+kind-rest (suc zero) a b c d = absurd (a refl)
+kind-rest (suc (suc zero)) a b c d = absurd (b refl)
+kind-rest (suc (suc (suc zero))) a b c d = absurd (c refl)
+kind-rest (suc (suc (suc (suc zero)))) a b c d = absurd (d refl)
+kind-rest (suc (suc (suc (suc (suc n))))) a b c d = refl
 
-rows-fit : allOf rowFits optionRows ≡ true
-unfolding allOf rowFits optionRows rowsFor longNames shortNames kinds bytes
-rows-fit = refl
+-- the two forms of the verbs joined: the strings recognise a text as a number exactly where it is the name in that number's row
+pub verb-forms : (t : List ℕ) (k : ℕ) → 1 ≤ k → k ≤ 13 → (verbOf t ≡ some k → t ≡ rowName (verbRow k)) × (t ≡ rowName (verbRow k) → verbOf t ≡ some k)
+verb-forms t k a b = let e = verb-row-name k in (λ f. verb-only-name t k f .2 ∙ sym e, λ f. ap verbOf (f ∙ e) ∙ verb-again k a b)
 
-pub rows-many : length optionRows ≡ 12
-unfolding optionRows rowsFor longNames shortNames kinds bytes
-rows-many = refl
-
-pub row-fits : (i : ℕ) → i < 12 → (length (getD optionRows i []) ≡ 16) × (0 < getD (getD optionRows i []) 0 0) × (getD (getD optionRows i []) 0 0 ≤ 11)
-unfolding rowFits
-row-fits i h =
-    let row = getD optionRows i [] in
-    let t = all-at rowFits optionRows [] rows-fit i (omega (arith, rows-many)) in
-    let u = and-r (eqb (length row) 16) (leb 1 (getD row 0 0) && leb (getD row 0 0) 11) t in (
-      eqb-true (length row) 16 (and-l (eqb (length row) 16) (leb 1 (getD row 0 0) && leb (getD row 0 0) 11) t),
-      leb-true 1 (getD row 0 0) (and-l (leb 1 (getD row 0 0)) (leb (getD row 0 0) 11) u),
-      leb-true (getD row 0 0) 11 (and-r (leb 1 (getD row 0 0)) (leb (getD row 0 0) 11) u),
-    )
+-- ---- a search among the options' rows
 
 -- what a row's test comes to, for the text of one byte and for the others
 pub row-short : (row t : List ℕ) → length t ≡ 1 → (getD row 12 0 ≡ 0 → ⊥) → rowNames row t ≡ eqb (getD t 0 0) (getD row 12 0)
@@ -102,52 +142,22 @@ row-long row t e p q = rw (ne-eqb (length t) 1 e) (go (getD row 0 0) p row q)
     go (suc n) p (x ∷ []) q = absurd (omega arith)
     go (suc n) p (x ∷ y ∷ row) q = refl
 
--- one row more
-pub find-row : (k : ℕ) (rows : List (List ℕ)) (t : List ℕ) (i : ℕ) → i < length rows
-    → findRow k (drop i rows) t ≡ cond (rowNames (getD rows i []) t) (some k) (findRow (suc k) (drop (i + 1) rows) t)
-unfolding findRow
-find-row k rows t i h = rw (step-of rows i [] h)
-
--- names of other lengths name nothing; nor do short names name a text of another length than 1
-none-long : (k : ℕ) (ns : List (List ℕ)) (s : List ℕ) → length s ≡ 1 → allOf (λ n. not (eqb (length n) 1)) ns ≡ true → find k ns s ≡ none
-unfolding find allOf
-none-long k [] s e a = refl
-none-long k (n ∷ ns) s e a =
-    let l = and-l (not (eqb (length n) 1)) (allOf (λ n. not (eqb (length n) 1)) ns) a in
-    simp (names-length n s (λ p. no-case (sym l ∙ ap not (eq-eqb (length n) 1 (sym p ∙ e)))))
-    (none-long (suc k) ns s e (and-r (not (eqb (length n) 1)) (allOf (λ n. not (eqb (length n) 1)) ns) a))
-
-not-short : (n s : List ℕ) → (length s ≡ 1 → ⊥) → length n ≤ 1 → names n s ≡ false
-unfolding names
-not-short [] s e h = refl
-not-short (b ∷ n) s e h = names-length (b ∷ n) s (λ p. e (omega (arith, p)))
-
-none-short : (k : ℕ) (ns : List (List ℕ)) (s : List ℕ) → (length s ≡ 1 → ⊥) → allOf (λ n. leb (length n) 1) ns ≡ true → find k ns s ≡ none
-unfolding find allOf
-none-short k [] s e a = refl
-none-short k (n ∷ ns) s e a =
-    simp (not-short n s e (leb-true (length n) 1 (and-l (leb (length n) 1) (allOf (λ n. leb (length n) 1) ns) a)))
-    (none-short (suc k) ns s e (and-r (leb (length n) 1) (allOf (λ n. leb (length n) 1) ns) a))
+-- the first of m numbers from k on whose row names a text
+unfoldable pub findRow : ℕ → ℕ → List ℕ → Option ℕ
+findRow zero k t = none
+findRow (suc m) k t = let more = findRow m (suc k) t in cond (rowNames (optionRow k) t) (some k) more
 
 -- the rows name what the short names do where the text has one byte, and what the long names do elsewhere
-options-one : (t : List ℕ) → eqb (length t) 1 ≡ true → findRow 1 optionRows t ≡ find 1 shortNames t
-unfolding findRow rowNames find optionRows rowsFor longNames shortNames kinds bytes
+options-one : (t : List ℕ) → eqb (length t) 1 ≡ true → findRow 12 1 t ≡ find 1 shortNames t
+unfolding findRow rowNames find optionRow optionName shortName kindOf longNames shortNames kinds bytes
 options-one t e = simp e
 
-options-many : (t : List ℕ) → eqb (length t) 1 ≡ false → findRow 1 optionRows t ≡ find 1 longNames t
-unfolding findRow rowNames find optionRows rowsFor longNames shortNames kinds bytes
+options-many : (t : List ℕ) → eqb (length t) 1 ≡ false → findRow 12 1 t ≡ find 1 longNames t
+unfolding findRow rowNames find optionRow optionName shortName kindOf longNames shortNames kinds bytes
 options-many t e = simp e
 
-pub options-long : (t : List ℕ) → length t ≡ 1 → find 1 longNames t ≡ none
-unfolding allOf longNames bytes
-options-long t e = none-long 1 longNames t e refl
-
-options-short : (t : List ℕ) → (length t ≡ 1 → ⊥) → find 1 shortNames t ≡ none
-unfolding allOf shortNames bytes
-options-short t e = none-short 1 shortNames t e refl
-
 -- the search over the rows, both names at once, is the search over the long names and then over the short ones
-pub find-options : (t : List ℕ) → findRow 1 optionRows t ≡ optionOf t
+pub find-options : (t : List ℕ) → findRow 12 1 t ≡ optionOf t
 unfolding optionOf
 find-options t = go (eqb (length t) 1) t refl
   where
@@ -155,118 +165,28 @@ find-options t = go (eqb (length t) 1) t refl
     no-more none = refl
     no-more (some k) = refl
 
-    go : (b : Bool) → (t : List ℕ) → eqb (length t) 1 ≡ b → findRow 1 optionRows t ≡ or (find 1 longNames t) (find 1 shortNames t)
+    go : (b : Bool) → (t : List ℕ) → eqb (length t) 1 ≡ b → findRow 12 1 t ≡ or (find 1 longNames t) (find 1 shortNames t)
     go true t e = options-one t e ∙ ap (λ o. or o (find 1 shortNames t)) (sym (options-long t (eqb-true (length t) 1 e)))
     go false t e = options-many t e ∙ no-more (find 1 longNames t) ∙ ap (or (find 1 longNames t)) (sym (options-short t (eqb-false (length t) 1 e)))
 
--- the loop over the options' rows: the answer from row i on is the answer
-module _ (t : List ℕ) (i : ℕ) (inv : findRow (i + 1) (drop i optionRows) t ≡ optionOf t) where
-  step : i < 12 → cond (rowNames (getD optionRows i []) t) (some (i + 1)) (findRow (i + 1 + 1) (drop (i + 1) optionRows) t) ≡ optionOf t
-  step h =
-      let e : suc (i + 1) ≡ i + 1 + 1 = omega arith in
-      ap (λ k. cond (rowNames (getD optionRows i []) t) (some (i + 1)) (findRow k (drop (i + 1) optionRows) t)) (sym e)
-      ∙ sym (find-row (i + 1) optionRows t i (omega (arith, rows-many)))
-      ∙ inv
-
-  pub row-hit : i < 12 → rowNames (getD optionRows i []) t ≡ true → Is (i + 1) ≡ known (optionOf t)
-  row-hit h e = ap known (rw e at (step h))
-
-  pub row-miss : i < 12 → rowNames (getD optionRows i []) t ≡ false → findRow (i + 1 + 1) (drop (i + 1) optionRows) t ≡ optionOf t
-  row-miss h e = rw e at (step h)
-
-  pub row-none : 12 ≤ i → Unknown ≡ known (optionOf t)
+-- the loop over the options: the answer from number n on is the answer
+module _ (t : List ℕ) (n : ℕ) (inv : findRow (13 - n) n t ≡ optionOf t) where
+  one-more : n < 13 → cond (rowNames (optionRow n) t) (some n) (findRow (13 - (n + 1)) (n + 1) t) ≡ optionOf t
   unfolding findRow
-  row-none h =
-      let m : length optionRows ≤ i = omega (arith, rows-many) in
-      ap known (sym (ap (λ rows. findRow (i + 1) rows t) (drop-of-length-le optionRows m)) ∙ inv)
+  one-more h =
+      let e : 13 - n ≡ suc (13 - (n + 1)) = omega arith in
+      let f : suc n ≡ n + 1 = omega arith in
+      ap (λ k. cond (rowNames (optionRow n) t) (some n) (findRow (13 - (n + 1)) k t)) (sym f) ∙ ap (λ m. findRow m n t) (sym e) ∙ inv
 
--- the kind that a row tells is the kind of its option
-pub row-kind : (i : ℕ) → kindAt (getD (getD optionRows i []) 13 0) ≡ kindOf (suc i)
-unfolding kindOf kindAt optionRows rowsFor longNames shortNames kinds bytes
-row-kind i = sym (List·getD-map rowKind optionRows i [])
+  pub row-hit : n < 13 → rowNames (optionRow n) t ≡ true → Is n ≡ known (optionOf t)
+  row-hit h e = ap known (rw e at (one-more h))
 
--- numbers that are no option's take no argument; nor does a row whose kind is of another number
-pub kind-out : (n : ℕ) → 12 < n → kindOf n ≡ Mere
-unfolding kindOf kinds
-kind-out n h = List·getD-eq-default kinds Mere h
+  pub row-miss : n < 13 → rowNames (optionRow n) t ≡ false → findRow (13 - (n + 1)) (n + 1) t ≡ optionOf t
+  row-miss h e = rw e at (one-more h)
 
-pub kind-rest : (n : ℕ) → (n ≡ 1 → ⊥) → (n ≡ 2 → ⊥) → (n ≡ 3 → ⊥) → (n ≡ 4 → ⊥) → kindAt n ≡ Mere
-unfolding kindAt
-kind-rest zero a b c d = refl
-kind-rest (suc zero) a b c d = absurd (a refl)
-kind-rest (suc (suc zero)) a b c d = absurd (b refl)
-kind-rest (suc (suc (suc zero))) a b c d = absurd (c refl)
-kind-rest (suc (suc (suc (suc zero)))) a b c d = absurd (d refl)
-kind-rest (suc (suc (suc (suc (suc n))))) a b c d = refl
-
--- ---- names by number
-
--- the name in the row of a number, in a table whose names are those
-row-name : (rows ns : List (List ℕ)) → map rowName rows ≡ ns → (n : ℕ) → (n ≡ 0 → ⊥) → rowName (getD rows (n - 1) []) ≡ getD ([] ∷ ns) n []
-row-name rows ns right zero h = absurd (h refl)
-row-name rows ns right (suc i) h =
-    let e : suc i - 1 ≡ i = omega arith in
-    ap (λ k. rowName (getD rows k [])) e ∙ sym (List·getD-map rowName rows i []) ∙ ap (λ l. getD l i []) right
-
--- a row's first byte is how long its name is
-pub row-length : (row : List ℕ) → getD row 0 0 < length row → getD row 0 0 ≡ length (rowName row)
-row-length row h = sym (length-take-le (getD row 0 0) (drop 1 row) (omega (arith, length-drop 1 row)))
-
-verbs-many : length verbRows ≡ 13
-unfolding verbRows verbNames bytes
-verbs-many = refl
-
--- a row of the verbs can be read
-nameFits : List ℕ → Bool
-nameFits row = leb (suc (getD row 0 0)) (length row) && leb (length row) 16
-
-verbs-fit : allOf nameFits verbRows ≡ true
-unfolding allOf nameFits verbRows verbNames bytes
-verbs-fit = refl
-
-pub verbs-right : map rowName verbRows ≡ verbNames
-unfolding verbRows verbNames bytes
-verbs-right = refl
-
-pub verb-fits : (i : ℕ) → i < 13 → (getD (getD verbRows i []) 0 0 < length (getD verbRows i [])) × (length (getD verbRows i []) ≤ 16)
-unfolding nameFits
-verb-fits i h =
-    let row = getD verbRows i [] in
-    let t = all-at nameFits verbRows [] verbs-fit i (omega (arith, verbs-many)) in (
-      leb-true (suc (getD row 0 0)) (length row) (and-l (leb (suc (getD row 0 0)) (length row)) (leb (length row) 16) t),
-      leb-true (length row) 16 (and-r (leb (suc (getD row 0 0)) (length row)) (leb (length row) 16) t),
-    )
-
-pub verb-name : (n : ℕ) → (n ≡ 0 → ⊥) → rowName (getD verbRows (n - 1) []) ≡ verbName n
-unfolding verbName
-verb-name = row-name verbRows verbNames verbs-right
-
-pub verb-none : verbName 0 ≡ []
-unfolding verbName
-verb-none = refl
-
-pub verb-out : (n : ℕ) → 13 < n → verbName n ≡ []
-unfolding verbName verbNames
-verb-out n h = List·getD-eq-default ([] ∷ verbNames) [] h
-
-pub options-right : map rowName optionRows ≡ longNames
-unfolding optionRows rowsFor longNames shortNames kinds bytes
-options-right = refl
-
-pub option-fits : (i : ℕ) → i < 12 → (getD (getD optionRows i []) 0 0 < length (getD optionRows i [])) × (length (getD optionRows i []) ≤ 16)
-option-fits i h = let r = row-fits i h in (omega (arith, r .0, r .2), omega (arith, r .0))
-
-pub option-name : (n : ℕ) → (n ≡ 0 → ⊥) → rowName (getD optionRows (n - 1) []) ≡ optionName n
-unfolding optionName
-option-name = row-name optionRows longNames options-right
-
-pub option-none : optionName 0 ≡ []
-unfolding optionName
-option-none = refl
-
-pub option-out : (n : ℕ) → 12 < n → optionName n ≡ []
-unfolding optionName longNames
-option-out n h = List·getD-eq-default ([] ∷ longNames) [] h
+  pub row-none : 13 ≤ n → Unknown ≡ known (optionOf t)
+  unfolding findRow
+  row-none h = let e : 13 - n ≡ 0 = omega arith in ap known (ap (λ m. findRow m n t) (sym e) ∙ inv)
 
 -- ---- bodies
 
@@ -280,3 +200,26 @@ body-at k h = ap bodyAt (getD-within bodyBytes k 0 255 (omega arith)) ∙ sym (L
 
 pub body-is : (b : ℕ) → (b ≡ 255 → ⊥) → some b ≡ bodyAt b
 body-is b h = rw (ne-eqb b 255 h)
+
+-- ---- whole records
+
+pub len-is : (k n : ℕ) → Is n ≡ known (bodyOf k) → 1 + n ≡ recordLen k
+unfolding recordLen
+len-is k n = go (bodyOf k)
+  where
+    go : (o : Option ℕ) → Is n ≡ known o → 1 + n ≡ lenWith o
+    go none e = cc
+    go (some m) e = cc
+
+pub len-unknown : (k : ℕ) → Unknown ≡ known (bodyOf k) → 0 ≡ recordLen k
+unfolding recordLen
+len-unknown k = go (bodyOf k)
+  where
+    go : (o : Option ℕ) → Unknown ≡ known o → 0 ≡ lenWith o
+    go none e = refl
+    go (some m) e = cc
+
+-- by kind: 1 verb, 2 option, 3 target, 4 property, 5 refusal, 6 blank, 7 cut, 16 node
+pub lengths : (recordLen 1 ≡ 2) × (recordLen 2 ≡ 6) × (recordLen 3 ≡ 5) × (recordLen 4 ≡ 10) × (recordLen 5 ≡ 4) × (recordLen 6 ≡ 1) × (recordLen 7 ≡ 1) × (recordLen 16 ≡ 22)
+unfolding recordLen bodyOf bodies
+lengths = (refl, refl, refl, refl, refl, refl, refl, refl)

@@ -1,26 +1,50 @@
--- The name at a number is recognised as that number, and nothing else is; of what form the names are. Assumes nothing.
+-- Verbs and options by name and by number: a number's name is recognised as that number, and nothing else is. Assumes nothing.
 use Prim.Native.Nat.{ℕ, zero, suc, _+_, _-_, _<_, _≤_}
 use mathlib.Core.Path.{_≡_, refl, sym, ap, _∙_}
 use mathlib.Core.List.{List, [], _∷_}
-use mathlib.Core.Bool.{Bool, true, false, cond, not, _&&_, _||_}
+use mathlib.Core.Bool.{Bool, true, false, cond, not, _&&_, _||_, and-false}
 use mathlib.Core.Option.{Option, none, some, Option·some-injective}
 use mathlib.Core.Logic.{_⊎_, inl, inr, ⊎-elim}
 use native.Mathlib.Omega.{arith}
-use lib.ListN.{length, getD}
+use lib.ListN.{length, getD, List·getD-eq-default}
 use lib.Dec.{eqb, leb}
-use borrow.Author.Tests.{ne-eqb, eqb-true, leb-true, leb-false, not-true}
+use borrow.Author.Tests.{eq-eqb, ne-eqb, eqb-true, eqb-false, leb-true, leb-false, not-true}
 use Rattle.text.specs.Bytes.{bytes, sameBytes, oneOf, isWord}
 use Rattle.text.specs.Lists.{isNil, allOf}
-use Rattle.text.proofs.Basics.{and-l, and-r, and-in, neg-in, no-case, none-some, same-eq, same-refl, either, or-case}
+use Rattle.text.proofs.Tests.{and-l, and-r, and-in, neg-in, no-case, either, or-case}
+use Rattle.text.proofs.Options.{none-some}
+use Rattle.text.proofs.SameTexts.{same-eq, same-refl}
+use Rattle.text.proofs.Scans.{same-length, all-at}
 use Rattle.words.specs.declared.Kind.{Kind}
 use Rattle.words.specs.declared.Kind.the-variants.{Mere, Keep, Level, Place, Entries}
-use Rattle.words.specs.Words.{verbNames, longNames, shortNames, names, find, or, verbOf, optionOf, verbName, optionName, kinds, kindOf}
-use Rattle.words.specs.Rows.{verbRows, rowName}
-use Rattle.words.specs.Names.{shortName, isLower, takesArgument, isMere}
-use Rattle.words.proofs.RowLaws.{below, below-at, options-long, verb-name, option-none, option-out, kind-out}
-use Rattle.text.proofs.Scans.{all-at}
+use Rattle.words.specs.Words.{verbNames, longNames, shortNames, names, find, or, verbOf, optionOf, verbName, optionName, shortName, kinds, kindOf}
+use Rattle.words.specs.Rows.{findOf}
+use Rattle.words.specs.Names.{isLower, takesArgument, isMere}
 
 -- ---- a search among names
+
+-- a name of another length names nothing here
+pub names-length : (name s : List ℕ) → (length s ≡ length name → ⊥) → names name s ≡ false
+unfolding names
+names-length name s h = ap (λ (b : Bool). not (isNil name) && b) (same-length s name h) ∙ and-false (not (isNil name))
+
+-- a text is one of the names of its own length or none
+pub find-of : (n k : ℕ) (ns : List (List ℕ)) (s : List ℕ) → length s ≡ n → find k ns s ≡ findOf n k ns s
+unfolding find findOf
+find-of n k [] s e = refl
+find-of n k (name ∷ ns) s e = go (eqb (length name) n) refl (find-of n (suc k) ns s e)
+  where
+    go : (t : Bool) → eqb (length name) n ≡ t → find (suc k) ns s ≡ findOf n (suc k) ns s → find k (name ∷ ns) s ≡ findOf n k (name ∷ ns) s
+    go true q ih = rw (q, ih)
+    go false q ih = let l = eqb-false (length name) n q in simp (q, names-length name s (λ p. l (sym p ∙ e))) ih
+
+-- no verb is shorter than 2 bytes or longer than 7
+pub no-verb : (s : List ℕ) → (length s ≡ 2 → ⊥) → (length s ≡ 3 → ⊥) → (length s ≡ 4 → ⊥) → (length s ≡ 5 → ⊥) → (length s ≡ 6 → ⊥) → (length s ≡ 7 → ⊥)
+    → verbOf s ≡ none
+unfolding verbOf findOf verbNames bytes
+no-verb s a b c d e f =
+    let out : (n : ℕ) → (length s ≡ n → ⊥) → eqb n (length s) ≡ false = λ n h. ne-eqb n (length s) (λ p. h (sym p)) in
+    find-of (length s) 1 verbNames s refl ∙ simp (out 2 a, out 3 b, out 4 c, out 5 d, out 6 e, out 7 f)
 
 -- a name names itself
 pub names-self : (n : List ℕ) → isNil n ≡ false → names n n ≡ true
@@ -145,6 +169,10 @@ pub verb-shape : (k : ℕ) → 1 ≤ k → k ≤ 13
 unfolding verbName
 verb-shape k a b = shape-says 7 (verbName k) (number-passes verbNames (shape 7) verbs-shape k a (omega (arith, verbs-many)))
 
+pub verb-out : (n : ℕ) → 13 < n → verbName n ≡ []
+unfolding verbName verbNames
+verb-out n h = List·getD-eq-default ([] ∷ verbNames) [] h
+
 pub verb-short : (n : ℕ) → length (verbName n) ≤ 7
 unfolding verbName verbNames bytes allOf
 verb-short n = short-name 7 ([] ∷ verbNames) n refl
@@ -163,20 +191,54 @@ verb-only-name s k e = let f = number-name verbNames s k e in (f .0, omega (arit
 pub verb-names-differ : (j k : ℕ) → 1 ≤ j → j ≤ 13 → 1 ≤ k → k ≤ 13 → verbName j ≡ verbName k → j ≡ k
 verb-names-differ j k a b c d e = Option·some-injective j k (sym (verb-again j a b) ∙ ap verbOf e ∙ verb-again k c d)
 
--- the two forms joined: the strings recognise a text as a number exactly where it is the name in that number's row of the table
-pub verb-forms : (t : List ℕ) (k : ℕ) → 1 ≤ k → k ≤ 13
-    → (verbOf t ≡ some k → t ≡ rowName (getD verbRows (k - 1) [])) × (t ≡ rowName (getD verbRows (k - 1) []) → verbOf t ≡ some k)
-verb-forms t k a b =
-    let e = verb-name k (λ z. absurd (omega arith)) in
-    (λ f. verb-only-name t k f .2 ∙ sym e, λ f. ap verbOf (f ∙ e) ∙ verb-again k a b)
-
 -- ---- options
+
+-- names of other lengths name nothing; nor do short names name a text of another length than 1
+none-long : (k : ℕ) (ns : List (List ℕ)) (s : List ℕ) → length s ≡ 1 → allOf (λ n. not (eqb (length n) 1)) ns ≡ true → find k ns s ≡ none
+unfolding find allOf
+none-long k [] s e a = refl
+none-long k (n ∷ ns) s e a =
+    let l = and-l (not (eqb (length n) 1)) (allOf (λ n. not (eqb (length n) 1)) ns) a in
+    simp (names-length n s (λ p. no-case (sym l ∙ ap not (eq-eqb (length n) 1 (sym p ∙ e)))))
+    (none-long (suc k) ns s e (and-r (not (eqb (length n) 1)) (allOf (λ n. not (eqb (length n) 1)) ns) a))
+
+not-short : (n s : List ℕ) → (length s ≡ 1 → ⊥) → length n ≤ 1 → names n s ≡ false
+unfolding names
+not-short [] s e h = refl
+not-short (b ∷ n) s e h = names-length (b ∷ n) s (λ p. e (omega (arith, p)))
+
+none-short : (k : ℕ) (ns : List (List ℕ)) (s : List ℕ) → (length s ≡ 1 → ⊥) → allOf (λ n. leb (length n) 1) ns ≡ true → find k ns s ≡ none
+unfolding find allOf
+none-short k [] s e a = refl
+none-short k (n ∷ ns) s e a =
+    simp (not-short n s e (leb-true (length n) 1 (and-l (leb (length n) 1) (allOf (λ n. leb (length n) 1) ns) a)))
+    (none-short (suc k) ns s e (and-r (leb (length n) 1) (allOf (λ n. leb (length n) 1) ns) a))
+
+pub options-long : (t : List ℕ) → length t ≡ 1 → find 1 longNames t ≡ none
+unfolding allOf longNames bytes
+options-long t e = none-long 1 longNames t e refl
+
+pub options-short : (t : List ℕ) → (length t ≡ 1 → ⊥) → find 1 shortNames t ≡ none
+unfolding allOf shortNames bytes
+options-short t e = none-short 1 shortNames t e refl
+
+pub option-none : optionName 0 ≡ []
+unfolding optionName
+option-none = refl
+
+pub option-out : (n : ℕ) → 12 < n → optionName n ≡ []
+unfolding optionName longNames
+option-out n h = List·getD-eq-default ([] ∷ longNames) [] h
 
 -- the long names are not empty, of lower case letters, and at most 11 bytes long
 pub option-shape : (k : ℕ) → 1 ≤ k → k ≤ 12
     → (isNil (optionName k) ≡ false) × (allOf isLower (optionName k) ≡ true) × (allOf isWord (optionName k) ≡ true) × (length (optionName k) ≤ 11)
 unfolding optionName
 option-shape k a b = shape-says 11 (optionName k) (number-passes longNames (shape 11) longs-shape k a (omega (arith, longs-many)))
+
+pub short-out : (n : ℕ) → 12 < n → shortName n ≡ []
+unfolding shortName shortNames
+short-out n h = List·getD-eq-default ([] ∷ shortNames) [] h
 
 pub option-short : (n : ℕ) → length (optionName n) ≤ 11
 unfolding optionName longNames bytes allOf
@@ -240,6 +302,23 @@ pub option-one : (s : List ℕ) (j k : ℕ) → isNil s ≡ false → (s ≡ opt
 option-one s j k h p q = Option·some-injective j k (sym (option-by-name s j h p) ∙ option-by-name s k h q)
 
 -- ---- arguments
+
+-- a test passed by each number below n
+unfoldable pub below : (ℕ → Bool) → ℕ → Bool
+below f zero = true
+below f (suc n) = f n && below f n
+
+pub below-at : (f : ℕ → Bool) (n : ℕ) → below f n ≡ true → (i : ℕ) → i < n → f i ≡ true
+unfolding below
+below-at f zero e i h = absurd (omega arith)
+below-at f (suc n) e i h =
+    either (eqb i n) (λ t. ap f (eqb-true i n t) ∙ and-l (f n) (below f n) e)
+    (λ t. let d = eqb-false i n t in below-at f n (and-r (f n) (below f n) e) i (omega (arith, d)))
+
+-- numbers that are no option's take no argument
+pub kind-out : (n : ℕ) → 12 < n → kindOf n ≡ Mere
+unfolding kindOf kinds
+kind-out n h = List·getD-eq-default kinds Mere h
 
 alike : Bool → Bool → Bool
 alike a b = cond a b (not b)

@@ -1,17 +1,11 @@
--- What the laws of names speak of: short names by number, lower case, and which options take an argument.
+-- What the laws of names speak of: lower case, and which options take an argument.
 use Prim.Native.Nat.{ℕ}
-use mathlib.Core.List.{List, [], _∷_}
+use mathlib.Core.List.{[], _∷_}
 use mathlib.Core.Bool.{Bool, true, false, _&&_}
-use lib.ListN.{getD}
 use lib.Dec.{leb}
 use Rattle.text.specs.Bytes.{oneOf}
 use Rattle.words.specs.declared.Kind.{Kind}
 use Rattle.words.specs.declared.Kind.the-variants.{Mere, Keep, Level, Place, Entries}
-use Rattle.words.specs.Words.{shortNames}
-
--- the short names of the numbers; empty where an option has none
-unfoldable pub shortName : ℕ → List ℕ
-shortName n = getD ([] ∷ shortNames) n []
 
 abbrev pub isLower : ℕ → Bool
 isLower b = leb 97 b && leb b 122

@@ -1,5 +1,5 @@
 -- The command, 1 and 2: verbs and options by name and by number; and the kinds of record with the length of their bodies.
-use Prim.Native.Nat.{ℕ, suc}
+use Prim.Native.Nat.{ℕ, suc, _+_}
 use mathlib.Core.List.{List, [], _∷_}
 use mathlib.Core.Bool.{Bool, cond, not, _&&_}
 use mathlib.Core.Option.{Option, none, some}
@@ -50,6 +50,10 @@ verbName n = getD ([] ∷ verbNames) n []
 unfoldable pub optionName : ℕ → List ℕ
 optionName n = getD ([] ∷ longNames) n []
 
+-- empty where an option has none
+unfoldable pub shortName : ℕ → List ℕ
+shortName n = getD ([] ∷ shortNames) n []
+
 -- Numbers 2, 3, 7, 8, 9 and 10 take the next term as argument: of which form it is.
 unfoldable pub kinds : List Kind
 kinds = Mere ∷ Mere ∷ Place ∷ Entries ∷ Mere ∷ Mere ∷ Mere ∷ Keep ∷ Level ∷ Entries ∷ Place ∷ Mere ∷ Mere ∷ []
@@ -71,3 +75,11 @@ bodies =
 
 unfoldable pub bodyOf : ℕ → Option ℕ
 bodyOf k = getD bodies k none
+
+-- how long a whole record is, by its kind: the byte of its kind and its body; 0 where there is no such kind
+abbrev pub lenWith : Option ℕ → ℕ
+lenWith none = 0
+lenWith (some n) = 1 + n
+
+unfoldable pub recordLen : ℕ → ℕ
+recordLen k = lenWith (bodyOf k)

@@ -6,9 +6,9 @@ ghost use mathlib.Core.Option.{none, some};
 ghost use lib.ListN.{length, getD};
 ghost use lib.Seq.{sets};
 ghost use Rattle.text.specs.Bytes.{sameBytes};
-ghost use Rattle.words.specs.Words.{names, verbNames, verbOf, verbName, optionOf, optionName, kindOf, allName, sessionName, bodyOf};
+ghost use Rattle.words.specs.Words.{names, verbNames, verbOf, verbName, optionOf, optionName, kindOf, allName, sessionName, bodyOf, recordLen};
 ghost use Rattle.words.specs.Tables.{known};
-ghost use Rattle.words.specs.Rows.{findOf, rowName, rowNames, kindAt};
+ghost use Rattle.words.specs.Rows.{findOf, verbRow, optionRow, rowName, rowNames, kindAt};
 
 // The form of an option's argument; Mere: it takes none.
 pub enum Kind {
@@ -25,8 +25,9 @@ pub enum Known {
     Unknown,
 }
 
-// A row: how many bytes the name has, the name in 7.
-const VERBS: [[u8; 8]; 13] = [
+// The rows of the verbs, by number; 0 is no verb's. A row: how many bytes the name has, the name in 7.
+const VERBS: [[u8; 8]; 14] = [
+    *b"\0\0\0\0\0\0\0\0",
     *b"\x02cd\0\0\0\0\0",
     *b"\x06create\0",
     *b"\x06delete\0",
@@ -42,9 +43,10 @@ const VERBS: [[u8; 8]; 13] = [
     *b"\x07version",
 ];
 
-// A row: how many bytes the long name has, the name in 11, the short name or 0, the kind of argument (1 keep, 2 level,
-// 3 a place, 4 entries), two zeros.
-const OPTIONS: [[u8; 16]; 12] = [
+// The rows of the options, by number; 0 is no option's. A row: how many bytes the long name has, the name in 11, the short name or 0, the kind of
+// argument (1 keep, 2 level, 3 a place, 4 entries), two zeros.
+const OPTIONS: [[u8; 16]; 13] = [
+    *b"\0\0\0\0\0\0\0\0\0\0\0\0\0\0\0\0",
     *b"\x03all\0\0\0\0\0\0\0\0a\0\0\0",
     *b"\x0bdestination\0\x03\0\0",
     *b"\x07display\0\0\0\0d\x04\0\0",
@@ -82,6 +84,26 @@ const BODIES: [u8; 17] = [
     NO_BODY,
     21, // node
 ];
+
+// The row of a verb; zeros where there is no such number.
+fn verb_row(n: u8) -> [u8; 8]
+    ensures { λ r. ⌜ r ≡ verbRow n ⌝ }
+{
+    if 13 < n {
+        return [0; 8];
+    }
+    VERBS[n as usize]
+}
+
+// The row of an option; zeros where there is no such number.
+fn option_row(n: u8) -> [u8; 16]
+    ensures { λ r. ⌜ r ≡ optionRow n ⌝ }
+{
+    if 12 < n {
+        return [0; 16];
+    }
+    OPTIONS[n as usize]
+}
 
 // The number of the verb with these bytes.
 pub fn verb(t: &[u8]) -> Known
@@ -166,20 +188,20 @@ pub fn is_all(t: &[u8]) -> bool
 pub fn option(t: &[u8]) -> Known
     ensures { λ r. ⌜ r ≡ known (optionOf (now (t .entry))) ⌝ }
 {
-    let mut i: usize = 0;
-    while i < 12 {
-        if row_names(&OPTIONS[i], t) {
-            return Known::Is(i as u8 + 1);
+    let mut n: u8 = 1;
+    while n < 13 {
+        if row_names(option_row(n), t) {
+            return Known::Is(n);
         }
-        i += 1;
+        n += 1;
     }
     Known::Unknown
 }
 
 // Whether a row of the options names a text.
-fn row_names(row: &[u8], t: &[u8]) -> bool
-    requires { ⌜ (length (now row) ≡ 16) × (0 < getD (now row) 0 0) × (getD (now row) 0 0 ≤ 11) ⌝ }
-    ensures { λ r. ⌜ r ≡ rowNames (now (row .entry)) (now (t .entry)) ⌝ }
+fn row_names(row: [u8; 16], t: &[u8]) -> bool
+    requires { ⌜ (0 < getD row 0 0) × (getD row 0 0 ≤ 11) ⌝ }
+    ensures { λ r. ⌜ r ≡ rowNames row (now (t .entry)) ⌝ }
 {
     if t.len() == 1 {
         let short = row[12];
@@ -196,14 +218,8 @@ fn row_names(row: &[u8], t: &[u8]) -> bool
 pub fn kind_of(n: u8) -> Kind
     ensures { λ r. ⌜ r ≡ kindOf n ⌝ }
 {
-    if n == 0 {
-        return Kind::Mere;
-    }
-    if 12 < n {
-        return Kind::Mere;
-    }
-    let i = (n - 1) as usize;
-    kind_at(OPTIONS[i][13])
+    let row = option_row(n);
+    kind_at(row[13])
 }
 
 // The form that a row's number stands for.
@@ -219,60 +235,20 @@ fn kind_at(n: u8) -> Kind
     }
 }
 
-// How many bytes the name of a verb has, by the verb's number.
-pub fn verb_name_len(n: u8) -> usize
-    ensures { λ r. ⌜ r ≡ length (verbName n) ⌝ }
-{
-    if n == 0 {
-        return 0;
-    }
-    if 13 < n {
-        return 0;
-    }
-    let i = (n - 1) as usize;
-    VERBS[i][0] as usize
-}
-
 // The name of a verb at a place of the room; tells how many bytes it has.
 pub fn put_verb_name(out: &mut [u8], at: usize, n: u8) -> usize
     ensures { λ r. ⌜ (r ≡ length (verbName n)) × (now (out .exit) ≡ sets (now (out .entry)) at (verbName n)) ⌝ }
 {
-    if n == 0 {
-        return 0;
-    }
-    if 13 < n {
-        return 0;
-    }
-    let i = (n - 1) as usize;
-    put_row(out, at, &VERBS[i])
-}
-
-// How many bytes the long name of an option has, by the option's number.
-pub fn option_name_len(n: u8) -> usize
-    ensures { λ r. ⌜ r ≡ length (optionName n) ⌝ }
-{
-    if n == 0 {
-        return 0;
-    }
-    if 12 < n {
-        return 0;
-    }
-    let i = (n - 1) as usize;
-    OPTIONS[i][0] as usize
+    let row = verb_row(n);
+    put_row(out, at, &row)
 }
 
 // The long name of an option at a place of the room; tells how many bytes it has.
 pub fn put_option_name(out: &mut [u8], at: usize, n: u8) -> usize
     ensures { λ r. ⌜ (r ≡ length (optionName n)) × (now (out .exit) ≡ sets (now (out .entry)) at (optionName n)) ⌝ }
 {
-    if n == 0 {
-        return 0;
-    }
-    if 12 < n {
-        return 0;
-    }
-    let i = (n - 1) as usize;
-    put_row(out, at, &OPTIONS[i])
+    let row = option_row(n);
+    put_row(out, at, &row)
 }
 
 // A row's name at a place of the room.
@@ -297,4 +273,15 @@ pub fn body_len(kind: u8) -> Known
         return Known::Unknown;
     }
     Known::Is(n)
+}
+
+// How long a whole record is, by its kind; 0 where there is no such kind.
+pub fn record_len(kind: u8) -> usize
+    ensures { λ r. ⌜ r ≡ recordLen kind ⌝ }
+{
+    let b = body_len(kind);
+    match b {
+        Known::Is(n) => 1 + n as usize,
+        Known::Unknown => 0,
+    }
 }

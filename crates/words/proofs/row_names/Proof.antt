@@ -9,24 +9,20 @@ use borrow.Author.Needs.{needs}
 use Rattle.words.proofs.row_names.Statement.{statement}
 use Rattle.words.proofs.row_names.Tie as tie
 
-shared-slice-read-short : tie.Need-shared-slice-read-short
-shared-slice-read-short c = search needs
+array-read-short : tie.Need-array-read-short
+array-read-short c = search needs
 
 returns : tie.Need-returns
-returns c =
-    let a = c .before .before .before .before .before .args in
-    sym (row-no-short (a .row .now) (a .t .now) (search needs) (c .if2 .taken))
+returns c = let a = c .before .before .before .args in sym (row-no-short (a .t1) (a .t .now) (search needs) (c .if2 .taken))
 
 shared-slice-read-result : tie.Need-shared-slice-read-result
 shared-slice-read-result c = search needs
 
 returns-2 : tie.Need-returns-2
-returns-2 c =
-    let a = c .before .before .before .before .before .before .args in
-    sym (row-short (a .row .now) (a .t .now) (search needs) (c .before .if2 .left))
+returns-2 c = let a = c .before .before .before .before .args in sym (row-short (a .t1) (a .t .now) (search needs) (c .before .if2 .left))
 
-shared-slice-read-n : tie.Need-shared-slice-read-n
-shared-slice-read-n c = search needs
+array-read-n : tie.Need-array-read-n
+array-read-n c = search needs
 
 cast-n : tie.Need-cast-n
 cast-n c = search needs
@@ -48,22 +44,22 @@ same-requires c κs = search needs
 
 returns-3 : tie.Need-returns-3
 returns-3 c =
-    let a = c .before .before .before .before .before .before .args in
-    let n = getD (a .row .now) 0 0 in
+    let a = c .before .before .before .before .before .args in
+    let n = getD (a .t1) 0 0 in
     let e : n + 1 - 1 ≡ n = omega arith in
     c .same .ensures
-    ∙ ap (λ (k : ℕ). sameBytes (a .t .now) (take k (drop 1 (a .row .now)))) e
-    ∙ sym (row-long (a .row .now) (a .t .now) (search needs) (search needs) (omega arith))
+    ∙ ap (λ (k : ℕ). sameBytes (a .t .now) (take k (drop 1 (a .t1)))) e
+    ∙ sym (row-long (a .t1) (a .t .now) (search needs) (search needs) (search needs))
 
 pub row-names-spec : {M : Type 1} → statement M
 row-names-spec =
     tie.close
     (tie.spec
-    shared-slice-read-short
+    array-read-short
     returns
     shared-slice-read-result
     returns-2
-    shared-slice-read-n
+    array-read-n
     cast-n
     add-same
     sub-same

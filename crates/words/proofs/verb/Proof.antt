@@ -4,7 +4,7 @@ use Rattle.text.specs.Bytes.{bytes}
 use Rattle.words.specs.Tables.{known}
 use Rattle.words.specs.Words.{verbNames, names, verbOf}
 use Rattle.words.specs.Rows.{findOf}
-use Rattle.words.proofs.RowLaws.{find-of, no-verb}
+use Rattle.words.proofs.WordLaws.{find-of, no-verb}
 use borrow.Author.Needs.{needs}
 use Rattle.words.proofs.verb.Statement.{statement}
 use Rattle.words.proofs.verb.Tie as tie
