@@ -14,7 +14,7 @@ use Rattle.terms.specs.Signs.{raws}
 use Rattle.reading.specs.Command.{Item}
 use Rattle.reading.specs.Reading.{Part, refusal, read, readingOf}
 use Rattle.canonical.specs.Canonical.{writing, itemsOf, writingAnswer, writingRoom}
-use Rattle.canonical.specs.Written.{restOf, totalFrom}
+use Rattle.canonical.specs.Written.{restOf, writtenFrom}
 
 -- what a line's canonical writing answers, and what the room then holds
 abbrev pub answerOf : List ℕ → List ℕ → Answer
@@ -38,9 +38,9 @@ module _ (line room : List ℕ) where
 
   module _ (ps : List Part) (e : readingOf line ≡ read ps) where
     -- what is counted is the length of the writing
-    pub counts-length : totalFrom 0 true (readingOf line) ≡ answer.Wrote (length (writing (itemsOf ps)))
+    pub counts-length : writtenFrom 0 true (readingOf line) ≡ answer.Wrote (length (writing (itemsOf ps)))
     unfolding restOf writing
-    counts-length = ap (totalFrom 0 true) e ∙ ap answer.Wrote (omega arith)
+    counts-length = ap (writtenFrom 0 true) e ∙ ap answer.Wrote (omega arith)
 
     -- where it fits, however long it is, it is written, and the rest of the room is as it was
     pub fits-written : length (writing (itemsOf ps)) ≤ length room

@@ -13,8 +13,10 @@ use Rattle.canonical.proofs.Lexing.{good}
 use Rattle.canonical.proofs.Frame.{cleanSign}
 use Rattle.canonical.proofs.Values.{text-none, no-word-40, no-word-41, no-word-44, texts-none}
 use Rattle.canonical.proofs.Names.{okEntry, entry-again, entry-good, entry-ok, name-some, okOptional}
-use Rattle.text.proofs.Basics.{and-l, and-r, or-l, or-r, no-case, any-between, every-again, every-ok}
-use Rattle.terms.proofs.TermLaws.{none-bares}
+use Rattle.text.proofs.Tests.{and-l, and-r, or-l, or-r, no-case}
+use Rattle.text.proofs.Options.{every-again, every-ok}
+use Rattle.text.proofs.Parts.{any-between}
+use Rattle.terms.proofs.Bares.{none-bares}
 use Rattle.forms.proofs.PropertyLaws.{name-words}
 use Rattle.forms.proofs.EntryLaws.{ontoAll, onto-cons, entry-parts-some}
 
@@ -60,7 +62,7 @@ whole-append a b p q r =
 
 whole-text : (s : List ℕ) → Whole (writeText s)
 unfolding Whole
-whole-text s r = run-out (writeText s) r (text-none 40 no-word-40 s) (text-none 41 no-word-41 s) (text-none 44 no-word-44 s)
+whole-text s r = run-out (writeText s) r (text-none 40 refl no-word-40 s) (text-none 41 refl no-word-41 s) (text-none 44 refl no-word-44 s)
 
 whole-value : (v : Value) → Whole (writeValue v)
 unfolding Whole writeValue entryParts ontoAll
@@ -69,8 +71,8 @@ whole-value (many ss) r =
     let body = between (bare 44) (writeTexts ss) in
     ap (onto (bare 40))
     (ap (entryParts true) (append-assoc body (bare 41 ∷ []) r)
-    ∙ run-in body (bare 41 ∷ r) (any-between (isBare 40) (bare 44) (writeTexts ss) refl (texts-none 40 no-word-40 ss))
-    (any-between (isBare 41) (bare 44) (writeTexts ss) refl (texts-none 41 no-word-41 ss))
+    ∙ run-in body (bare 41 ∷ r) (any-between (isBare 40) (bare 44) (writeTexts ss) refl (texts-none 40 refl no-word-40 ss))
+    (any-between (isBare 41) (bare 44) (writeTexts ss) refl (texts-none 41 refl no-word-41 ss))
     ∙ sym (onto-append body (bare 41 ∷ []) (entryParts false r)))
 
 whole-optional : (o : Option Value) → Whole (writeOptional o)

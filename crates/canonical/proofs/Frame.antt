@@ -19,9 +19,11 @@ use Rattle.terms.specs.declared.Mode.{Mode}
 use Rattle.terms.specs.declared.Mode.the-variants.{Out}
 use Rattle.text.specs.Bytes.{printable}
 use Rattle.text.specs.Lists.{allOf, anyOf, between, each, given, isNil, upTo, walk}
-use Rattle.text.proofs.Basics.{and-l, and-r, and-in, all-append, all-up, up-at, up-all, or-l, or-r}
+use Rattle.text.proofs.Tests.{and-l, and-r, and-in, or-l, or-r}
+use Rattle.text.proofs.AllAny.{all-append, all-up, up-at, up-all}
 use Rattle.canonical.proofs.Lexing.{good, good-read, good-end, good-clean, good-solid}
-use Rattle.terms.proofs.TermLaws.{raws-append, bare-signs}
+use Rattle.terms.proofs.SignBytes.{raws-append}
+use Rattle.terms.proofs.Bares.{bare-signs}
 use Rattle.terms.proofs.ByteCases.{gives-case, end-case}
 use Rattle.reading.proofs.PartOrder.{read-walk}
 use Rattle.terms.proofs.RowLaws.{no-row, lone-is, open-is, isGrave, isIn}

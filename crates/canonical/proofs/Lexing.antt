@@ -10,7 +10,8 @@ use Rattle.terms.specs.Terms.{isGap}
 use Rattle.terms.specs.declared.Mode.the-variants.{Out}
 use Rattle.text.specs.Bytes.{oneOf, printable}
 use Rattle.text.specs.Lists.{allOf, anyOf, walk}
-use Rattle.text.proofs.Basics.{and-l, and-r, no-case, all-append}
+use Rattle.text.proofs.Tests.{and-l, and-r, no-case}
+use Rattle.text.proofs.AllAny.{all-append}
 use borrow.Author.Tests.{not-true}
 use Rattle.terms.specs.RowWords.{turns}
 use Rattle.terms.proofs.Paper.{modeOf}

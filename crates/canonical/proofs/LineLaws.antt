@@ -11,16 +11,16 @@ use Rattle.text.specs.declared.Verdict.the-variants.{Fine}
 use Rattle.text.specs.Lists.{each, between}
 use Rattle.text.proofs.Writes.{fitted-room, fitted-none, filled-none, filled-sets}
 use Rattle.terms.specs.Signs.{bare, raws}
-use Rattle.terms.proofs.TermLaws.{raws-append}
+use Rattle.terms.proofs.SignBytes.{raws-append}
 use Rattle.reading.specs.declared.Shown.{Shown}
 use Rattle.reading.specs.declared.Cursor.{Cursor}
 use Rattle.reading.specs.Command.{Item}
 use Rattle.reading.specs.Reading.{Reading, refusal, read, adding}
-use Rattle.reading.specs.Cursor.{left, start}
+use Rattle.reading.specs.Cursor.{left}
 use Rattle.reading.specs.Shown.{verdictIn}
 use Rattle.reading.proofs.Steps.{Stepped}
 use Rattle.canonical.specs.Canonical.{writeItem, writing, itemsOf, writingAnswer, writingRoom}
-use Rattle.canonical.specs.Written.{written, gap, restOf, writtenIn, totalFrom}
+use Rattle.canonical.specs.Written.{written, gap, restOf, writtenIn, writtenFrom}
 use Rattle.canonical.proofs.TermWriting.{term-written}
 
 -- ---- one step that gave a part
@@ -61,18 +61,18 @@ module _ (line : List ℕ) (c after : Cursor) (x : Shown) (a n : ℕ) (t : Stepp
           ∙ ap (λ (z : List ℕ). gap first ++ (z ++ restOf false (itemsOf ps))) (step-writes line c after x a n t)
           ∙ sym (append-assoc (gap first) (written x (take n (drop a line))) (restOf false (itemsOf ps)))
 
-  pub step-total : (w : ℕ) → totalFrom w first (left line c) ≡ totalFrom (w + length stepped) false (left line after)
-  step-total w = ap (totalFrom w first) (t .leaves) ∙ go (left line after)
+  pub step-total : (w : ℕ) → writtenFrom w first (left line c) ≡ writtenFrom (w + length stepped) false (left line after)
+  step-total w = ap (writtenFrom w first) (t .leaves) ∙ go (left line after)
     where
-      go : (r : Reading) → totalFrom w first (adding (record { start = a; len = n; item = t .item }) r) ≡ totalFrom (w + length stepped) false r
+      go : (r : Reading) → writtenFrom w first (adding (record { start = a; len = n; item = t .item }) r) ≡ writtenFrom (w + length stepped) false r
       go (refusal k p) = refl
       go (read ps) =
           let e = rest-cons first (t .item) (itemsOf ps) ∙ ap (λ (z : List ℕ). gap first ++ (z ++ restOf false (itemsOf ps))) (step-writes line c after x a n t) ∙ sym (append-assoc (gap first) (written x (take n (drop a line))) (restOf false (itemsOf ps))) in
           ap answer.Wrote (omega (arith, ap length e, length-append stepped (restOf false (itemsOf ps))))
 
 -- the end
-pub end-total : (w : ℕ) (first : Bool) (r : Reading) → r ≡ read [] → totalFrom w first r ≡ answer.Wrote w
-end-total w first r e = ap (totalFrom w first) e ∙ ap answer.Wrote (omega (arith, ap length (rest-nil first)))
+pub end-total : (w : ℕ) (first : Bool) (r : Reading) → r ≡ read [] → writtenFrom w first r ≡ answer.Wrote w
+end-total w first r e = ap (writtenFrom w first) e ∙ ap answer.Wrote (omega (arith, ap length (rest-nil first)))
 
 pub end-written : (first : Bool) (r : Reading) → r ≡ read [] → writtenIn first r ≡ []
 end-written first r e = ap (writtenIn first) e ∙ rest-nil first
@@ -84,32 +84,32 @@ unfolding restOf writing
 first-writing is = refl
 
 module _ (r : Reading) (room : List ℕ) where
-  pub total-refused : (k p : ℕ) → answer.Refused k p ≡ totalFrom 0 true r → (answer.Refused k p ≡ writingAnswer (length room) r) × (room ≡ writingRoom room r)
+  pub total-refused : (k p : ℕ) → answer.Refused k p ≡ writtenFrom 0 true r → (answer.Refused k p ≡ writingAnswer (length room) r) × (room ≡ writingRoom room r)
   total-refused k p e = go r e
     where
-      go : (q : Reading) → answer.Refused k p ≡ totalFrom 0 true q → (answer.Refused k p ≡ writingAnswer (length room) q) × (room ≡ writingRoom room q)
+      go : (q : Reading) → answer.Refused k p ≡ writtenFrom 0 true q → (answer.Refused k p ≡ writingAnswer (length room) q) × (room ≡ writingRoom room q)
       go (refusal j a) f = (f, refl)
       go (read ps) f = absurd (let z : _≡_ {A = ℕ} 0 1 = cc in omega arith)
 
-  module _ (n : ℕ) (e : answer.Wrote n ≡ totalFrom 0 true r) where
+  module _ (n : ℕ) (e : answer.Wrote n ≡ writtenFrom 0 true r) where
     pub total-fine : verdictIn r ≡ Fine
     total-fine = go r e
       where
-        go : (q : Reading) → answer.Wrote n ≡ totalFrom 0 true q → verdictIn q ≡ Fine
+        go : (q : Reading) → answer.Wrote n ≡ writtenFrom 0 true q → verdictIn q ≡ Fine
         go (refusal j a) f = absurd (let z : _≡_ {A = ℕ} 0 1 = cc in omega arith)
         go (read ps) f = refl
 
     pub total-length : n ≡ length (writtenIn true r)
     total-length = go r e
       where
-        go : (q : Reading) → answer.Wrote n ≡ totalFrom 0 true q → n ≡ length (writtenIn true q)
+        go : (q : Reading) → answer.Wrote n ≡ writtenFrom 0 true q → n ≡ length (writtenIn true q)
         go (refusal j a) f = absurd (let z : _≡_ {A = ℕ} 0 1 = cc in omega arith)
         go (read ps) f = let m : n ≡ 0 + length (restOf true (itemsOf ps)) = cc in omega arith
 
     pub total-none : length room < n → (answer.Refused 19 0 ≡ writingAnswer (length room) r) × (room ≡ writingRoom room r)
     total-none h = go r e
       where
-        go : (q : Reading) → answer.Wrote n ≡ totalFrom 0 true q → (answer.Refused 19 0 ≡ writingAnswer (length room) q) × (room ≡ writingRoom room q)
+        go : (q : Reading) → answer.Wrote n ≡ writtenFrom 0 true q → (answer.Refused 19 0 ≡ writingAnswer (length room) q) × (room ≡ writingRoom room q)
         go (refusal j a) f = absurd (let z : _≡_ {A = ℕ} 0 1 = cc in omega arith)
         go (read ps) f =
             let m : n ≡ 0 + length (restOf true (itemsOf ps)) = cc in
@@ -119,7 +119,7 @@ module _ (r : Reading) (room : List ℕ) where
     pub total-fits : n ≤ length room → (now : List ℕ) → now ≡ sets room 0 (writtenIn true r) → (answer.Wrote n ≡ writingAnswer (length room) r) × (now ≡ writingRoom room r)
     total-fits h now w = go r e w
       where
-        go : (q : Reading) → answer.Wrote n ≡ totalFrom 0 true q → now ≡ sets room 0 (writtenIn true q) → (answer.Wrote n ≡ writingAnswer (length room) q) × (now ≡ writingRoom room q)
+        go : (q : Reading) → answer.Wrote n ≡ writtenFrom 0 true q → now ≡ sets room 0 (writtenIn true q) → (answer.Wrote n ≡ writingAnswer (length room) q) × (now ≡ writingRoom room q)
         go (refusal j a) f v = absurd (let z : _≡_ {A = ℕ} 0 1 = cc in omega arith)
         go (read ps) f v =
             let m : n ≡ 0 + length (restOf true (itemsOf ps)) = cc in

@@ -14,8 +14,9 @@ use Rattle.text.specs.Lists.{allOf, anyOf, isNil, past, upTo}
 use Rattle.canonical.proofs.Lexing.{okBare, good}
 use Rattle.canonical.proofs.Frame.{cleanSign}
 use Rattle.canonical.proofs.Values.{word-ok, good-bares, okValue, value-again, value-good, value-no-eq, value-ok, no-word-61}
-use Rattle.text.proofs.Basics.{and-l, and-r, and-in, no-case, all-past, up-at, past-at, any-at, all-mono, all-drop}
-use Rattle.terms.proofs.TermLaws.{raws-bares, none-bares}
+use Rattle.text.proofs.Tests.{and-l, and-r, and-in, no-case}
+use Rattle.text.proofs.AllAny.{all-past, up-at, past-at, any-at, all-mono, all-drop}
+use Rattle.terms.proofs.Bares.{raws-bares, none-bares}
 use Rattle.forms.proofs.PropertyLaws.{name-words}
 use Rattle.forms.proofs.FormCases.{said-from, property-from, topic-from, entry-from}
 

@@ -6,7 +6,7 @@ use mathlib.Core.Bool.{Bool, true, false, not, _&&_, _||_}
 use mathlib.Core.Option.{some}
 use lib.Dec.{eqb}
 use borrow.Author.Tests.{eqb-true}
-use Rattle.canonical.specs.Canonical.{escapes, writeMore, writePlace}
+use Rattle.canonical.specs.Canonical.{three, escapes, writeMore, writePlace}
 use Rattle.forms.specs.Forms.{hasEq, isKeep, isLevel, isMark, isPlace, starts}
 use Rattle.forms.specs.Targets.{isSeparator}
 use Rattle.terms.specs.Signs.{Sign, bare, escaped, isBare, quote, quoted, quotedEscaped, stands, standsFor, twelve, bares}
@@ -17,8 +17,10 @@ use Rattle.words.specs.Words.{optionName, optionOf, verbName, verbOf, names, al
 use Rattle.canonical.proofs.Lexing.{okBare, okSign, good}
 use Rattle.canonical.proofs.Values.{good-bares, starts-none, word-byte}
 use Rattle.canonical.proofs.Targets.{okWritten, digit-segment, byte-segment}
-use Rattle.text.proofs.Basics.{and-l, and-r, and-in, or-l, or-r, no-case, or-case, all-mono, same-eq}
-use Rattle.terms.proofs.TermLaws.{none-bares}
+use Rattle.text.proofs.Tests.{and-l, and-r, and-in, or-l, or-r, no-case, or-case}
+use Rattle.text.proofs.SameTexts.{same-eq}
+use Rattle.text.proofs.AllAny.{all-mono}
+use Rattle.terms.proofs.Bares.{none-bares}
 use Rattle.text.proofs.Decimals.{decimal-made}
 use Rattle.words.proofs.WordLaws.{verb-again, verb-shape, verb-only-name, option-again, option-shape, option-only-name}
 use Rattle.terms.specs.RowWords.{turns}
@@ -77,10 +79,7 @@ level-ok s e =
 
 -- ---- places
 
-three : List ℕ
-three = bytes " `\""
-
-escape-twelve : (l : Bool) (b : ℕ) → (oneOf (bytes " `\"") b || (l && eqb b 45)) ≡ true → oneOf twelve b ≡ true
+escape-twelve : (l : Bool) (b : ℕ) → (oneOf three b || (l && eqb b 45)) ≡ true → oneOf twelve b ≡ true
 unfolding oneOf twelve bytes
 escape-twelve l b e =
     or-case (eqb b 32 || (eqb b 96 || (eqb b 34 || false))) (l && eqb b 45) e
@@ -99,15 +98,15 @@ record Escaped (l : Bool) (b : ℕ) : Type 0 where
 
 escaped-ok : (l : Bool) (b : ℕ) → printable b ≡ true → Escaped l b
 unfolding escapes
-escaped-ok l b e = go (oneOf (bytes " `\"") b || (l && eqb b 45)) refl
+escaped-ok l b e = go (oneOf three b || (l && eqb b 45)) refl
   where
-    go : (x : Bool) → (oneOf (bytes " `\"") b || (l && eqb b 45)) ≡ x → Escaped l b
+    go : (x : Bool) → (oneOf three b || (l && eqb b 45)) ≡ x → Escaped l b
     go true p =
         record { ok = rw p (and-in (oneOf twelve b) (printable b) (escape-twelve l b p) e); stays = rw p; means = rw p; mark = rw p; dash = λ _. rw p }
     go false p =
-        let q : (eqb b 32 || (eqb b 96 || (eqb b 34 || false))) ≡ false = unfold oneOf bytes in or-l (oneOf (bytes " `\"") b) (l && eqb b 45) p in
+        let q : (eqb b 32 || (eqb b 96 || (eqb b 34 || false))) ≡ false = unfold oneOf bytes in or-l (oneOf three b) (l && eqb b 45) p in
         let r = or-r (eqb b 32) (eqb b 96 || (eqb b 34 || false)) q in
-        let u = or-r (oneOf (bytes " `\"") b) (l && eqb b 45) p in
+        let u = or-r (oneOf three b) (l && eqb b 45) p in
         record {
           ok = rw p (simp (or-l (eqb b 32) (eqb b 96 || (eqb b 34 || false)) q, or-l (eqb b 96) (eqb b 34 || false) r, or-l (eqb b 34) false (or-r (eqb b 96) (eqb b 34 || false) r), e));
           stays = rw p;

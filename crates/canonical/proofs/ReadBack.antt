@@ -12,7 +12,7 @@ use Rattle.canonical.proofs.Frame as frame
 use Rattle.canonical.specs.Canonical.{writeArgument, writeEntry, writeItem, writeOptional, writePlace, writeProperty, writeSaid, writeTarget, writing}
 use Rattle.forms.specs.Forms.{Entry, Property, hasEq, isName, propertyOf, starts, topicOf}
 use Rattle.forms.specs.Targets.{Target, targetOf}
-use Rattle.reading.specs.Command.{Argument, Item, argument, argumentBy, items, number, option, prop, target, text, verb}
+use Rattle.reading.specs.Command.{Argument, Item, argument, argumentBy, items, numeral, option, prop, target, text, verb}
 use Rattle.reading.specs.Reading.{commandOf, decide, decideAfter, decideArgument, decideIn, decideOption, decideProperty, decideTarget, decideVerb, takes}
 use Rattle.reading.specs.declared.Phase.{Phase}
 use Rattle.reading.specs.declared.Phase.the-variants.{First, Options, Rest, Waits}
@@ -30,8 +30,9 @@ use Rattle.canonical.proofs.Names.{okSaid, okProperty, okEntry, okOptio
 use Rattle.canonical.proofs.Entries.{entries-again, entries-good, entries-some, entries-ok}
 use Rattle.canonical.proofs.Targets.{okWritten, target-ok}
 use Rattle.canonical.proofs.Places.{written-good, written-eq, written-dash, keep-ok, level-ok, place-ok, stands-some, verb-ok, option-ok, NumberOk}
-use Rattle.text.proofs.Basics.{and-l, and-r, no-case, map-some}
-use Rattle.terms.proofs.TermLaws.{raws-bares}
+use Rattle.text.proofs.Tests.{and-l, and-r, no-case}
+use Rattle.text.proofs.AllAny.{map-some}
+use Rattle.terms.proofs.Bares.{raws-bares}
 use Rattle.reading.proofs.TakenCases.{taken-case, argument-from}
 
 pub record Again (p : Phase) (help : Bool) (seen : List Bool) (count : ℕ) (i : Item) : Type 0 where
@@ -93,7 +94,7 @@ record ArgumentOk (k : Kind) (a : Argument) : Type 0 where
   dash : starts 45 (writeArgument a) ≡ false
   isWord : word (writeArgument a) ≡ true
 
-number-back : (k : Kind) (s : List ℕ) → NumberOk s → argumentBy k (bares s) ≡ some (number s) → ArgumentOk k (number s)
+number-back : (k : Kind) (s : List ℕ) → NumberOk s → argumentBy k (bares s) ≡ some (numeral s) → ArgumentOk k (numeral s)
 number-back k s o a = record { again = a; dash = written-dash s (o .bytesOk); isWord = bare-word s (o .isSome) (o .bytesOk) }
 
 place-back : (s : List ℕ) → isNil s ≡ false → allOf printable s ≡ true → ArgumentOk Place (text s)

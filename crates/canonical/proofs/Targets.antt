@@ -15,9 +15,12 @@ use Rattle.text.specs.Decimal.{isDecimal}
 use Rattle.text.specs.Lists.{allOf, anyOf, between, each, isNil, parts, runLen}
 use Rattle.canonical.proofs.Lexing.{okBare}
 use Rattle.canonical.proofs.Values.{WordByte, letter-byte, digit-byte, byte-ok}
-use Rattle.text.proofs.Basics.{and-l, and-r, and-in, no-case, same-eq, parts-between, or-case, all-mono, all-none, all-between, or-in-l}
+use Rattle.text.proofs.Tests.{and-l, and-r, and-in, no-case, or-case, or-in-l}
+use Rattle.text.proofs.SameTexts.{same-eq}
+use Rattle.text.proofs.AllAny.{all-mono, all-none}
+use Rattle.text.proofs.Parts.{parts-between, all-between}
 use Rattle.words.specs.Words.{sessionName}
-use Rattle.forms.proofs.TargetBytes.{isSegmentByte, segment-bytes, starred-bytes, nil-segment, nil-starred}
+use Rattle.forms.proofs.SegmentBytes.{isSegmentByte, segment-bytes, starred-bytes, nil-segment, nil-starred}
 use Rattle.forms.proofs.FormCases.{target-from}
 
 -- ---- bytes of segments: bare, no `=`, no `-`; and no separator

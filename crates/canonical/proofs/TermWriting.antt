@@ -11,19 +11,21 @@ use lib.Dec.{eqb}
 use borrow.Author.Tests.{eqb-true}
 use Rattle.text.specs.Bytes.{bytes, oneOf, sameBytes}
 use Rattle.text.specs.Lists.{anyOf, onto, parts, each, between, isNil}
-use Rattle.text.proofs.Basics.{or-case, no-case, same-eq, parts-some}
+use Rattle.text.proofs.Tests.{or-case, no-case}
+use Rattle.text.proofs.SameTexts.{same-eq}
+use Rattle.text.proofs.Parts.{parts-some}
 use Rattle.terms.specs.declared.Mode.the-variants.{Out, OutGrave}
 use Rattle.terms.specs.Signs.{bare, escaped, twelve, after, gives, signs, raw, raws, stands, meant, bares}
-use Rattle.terms.proofs.TermLaws.{raws-signs, raws-bares}
+use Rattle.terms.proofs.SignBytes.{raws-signs}
+use Rattle.terms.proofs.Bares.{raws-bares}
 use Rattle.words.specs.declared.Kind.{Kind}
 use Rattle.words.specs.Words.{verbName, optionName, kindOf, sessionName}
 use Rattle.forms.specs.Forms.{starts, isMark, isPlace, Property, propertyOf, topicOf}
 use Rattle.forms.specs.Targets.{isSeparator, Target, targetOf}
 use Rattle.reading.specs.declared.State.{State}
-use Rattle.reading.specs.Command.{Argument, argumentBy, Item}
+use Rattle.reading.specs.Command.{Argument, argumentBy, Item, shownOf}
 use Rattle.reading.specs.Reading.{takes, decide}
-use Rattle.reading.specs.Cursor.{shownOf}
-use Rattle.canonical.specs.Canonical.{writeProperty, escapes, writeMore, writePlace, writeArgument, writeTarget, writeItem}
+use Rattle.canonical.specs.Canonical.{writeProperty, three, escapes, writeMore, writePlace, writeArgument, writeTarget, writeItem}
 use Rattle.canonical.specs.Written.{graved, gravedAll, textsIn, leadsDash, dashGrave, placeIn, slash, slashed, argumentIn, written}
 use Rattle.canonical.proofs.TextWriting.{entries-written, topic-written, property-written}
 use Rattle.text.proofs.Classes.{other-byte}
@@ -63,7 +65,7 @@ target-written =
 
 more-byte : (b : ℕ) → raw (escapes false b) ≡ graved false b
 unfolding escapes graved
-more-byte b = go (oneOf (bytes " `\"") b)
+more-byte b = go (oneOf three b)
   where
     go : (x : Bool) → raw (cond (x || false) (escaped b) (bare b)) ≡ cond x (96 ∷ b ∷ []) (b ∷ [])
     go true = refl
@@ -80,7 +82,7 @@ dash-first b e = let z = eqb-true b 45 e in rw z
 
 other-first : (b : ℕ) → eqb b 45 ≡ false → raw (escapes true b) ≡ graved false b
 unfolding escapes
-other-first b e = more-like (oneOf (bytes " `\"") b) ∙ more-byte b
+other-first b e = more-like (oneOf three b) ∙ more-byte b
   where
     more-like : (x : Bool) → raw (cond (x || (true && eqb b 45)) (escaped b) (bare b)) ≡ raw (cond (x || (false && eqb b 45)) (escaped b) (bare b))
     more-like x = rw e

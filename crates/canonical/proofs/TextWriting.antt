@@ -11,13 +11,16 @@ use lib.Dec.{eqb, leb}
 use borrow.Author.Tests.{ne-eqb, not-true}
 use Rattle.text.specs.Bytes.{bytes, oneOf, isWord}
 use Rattle.text.specs.Lists.{allOf, anyOf, upTo, past, onto, each, between, isNil, given, every}
-use Rattle.text.proofs.Basics.{and-l, and-r, or-l, or-r, no-case, given-some, parts-some, between-parts, all-none, nil-is}
+use Rattle.text.proofs.Tests.{and-l, and-r, or-l, or-r, no-case}
+use Rattle.text.proofs.Options.{given-some}
+use Rattle.text.proofs.AllAny.{all-none, nil-is}
+use Rattle.text.proofs.Parts.{parts-some, between-parts}
 use Rattle.terms.specs.Signs.{Sign, bare, escaped, quote, quoted, quotedEscaped, raws, stands, isBare, bares}
 use Rattle.forms.specs.Forms.{starts, hasEq, isName, isPlainSign, endsQuote, isText, Value, many, itemsIn, isList, valueOf, Entry, entryOf, entryParts, entriesOf, Said, saidOf, Property, propertyOf, topicOf}
-use Rattle.canonical.specs.Canonical.{writeText, writeTexts, writeValue, writeOptional, writeEntry, writeSaid, writeProperty}
+use Rattle.canonical.specs.Canonical.{isPlain, writeText, writeTexts, writeValue, writeOptional, writeEntry, writeSaid, writeProperty}
 use Rattle.canonical.specs.Written.{parting, textSigns, rewriteFrom, rewritten}
 use Rattle.canonical.proofs.Values.{word-byte}
-use Rattle.terms.proofs.TermLaws.{bare-is, bare-split}
+use Rattle.terms.proofs.Bares.{bare-is, bare-split}
 use Rattle.forms.proofs.PropertyLaws.{name-words}
 use Rattle.forms.proofs.EntryLaws.{entry-parts-some}
 use Rattle.text.proofs.Classes.{other-byte}
@@ -134,7 +137,7 @@ list-writes : (t r : List Sign) → isList t ≡ true
 unfolding isList itemsIn allOf between writeTexts
 list-writes t r h =
     go (itemsIn t) (parts-some (isBare 44) (upTo (isBare 41) t)) texts
-    (sym (between-parts (isBare 44) (bare 44) (λ y e. bare-is 44 y e) (upTo (isBare 41) t)))
+    (sym (between-parts (isBare 44) (bare 44) (λ y e. bare-is 44 refl y e) (upTo (isBare 41) t)))
   where
     after : Bool
     after = isNil (past (isBare 41) t) && (allOf isText (itemsIn t) && leb (length (itemsIn t)) 16)
@@ -151,7 +154,7 @@ list-writes t r h =
         (and-r (isNil (past (isBare 41) t)) (allOf isText (itemsIn t) && leb (length (itemsIn t)) 16) (and-r (anyOf (isBare 41) t) after h))
 
     split : t ≡ upTo (isBare 41) t ++ (bare 41 ∷ [])
-    split = bare-split 41 t has ∙ ap (λ (z : List Sign). upTo (isBare 41) t ++ (bare 41 ∷ z)) nothing
+    split = bare-split 41 refl t has ∙ ap (λ (z : List Sign). upTo (isBare 41) t ++ (bare 41 ∷ z)) nothing
 
     go : (ws : List (List Sign)) → isNil ws ≡ false → allOf isText ws ≡ true → upTo (isBare 41) t ≡ between (bare 44) ws
         → rewritten (t ++ r) ≡ (between (bare 44) (writeTexts (map stands ws)) ++ (bare 41 ∷ [])) ++ rewritten r
@@ -171,7 +174,7 @@ value-writes t r v h p = value-from (λ w. rewritten (t ++ r) ≡ writeValue w +
     list : (t : List Sign) → starts 40 t ≡ true → isList (drop 1 t) ≡ true → rewritten (t ++ r) ≡ writeValue (many (map stands (itemsIn (drop 1 t)))) ++ rewritten r
     list [] e l = cc
     list (x ∷ t) e l =
-        ap (λ (y : Sign). rewritten (y ∷ (t ++ r))) (bare-is 40 x e) ∙ parted (bare 40) (t ++ r) open-parts ∙ ap (λ (w : List Sign). bare 40 ∷ w) (list-writes t r l)
+        ap (λ (y : Sign). rewritten (y ∷ (t ++ r))) (bare-is 40 refl x e) ∙ parted (bare 40) (t ++ r) open-parts ∙ ap (λ (w : List Sign). bare 40 ∷ w) (list-writes t r l)
 
 -- ---- names: raw bytes that are letters, digits and underscores stand for themselves
 
@@ -193,7 +196,7 @@ word-signs (quoted b ∷ a) h =
 word-signs (quotedEscaped b ∷ a) h = no-case (sym (and-l (isWord 96) (isWord b && allOf isWord (raws a)) h) ∙ (unfold isWord in refl))
 
 name-plain : (s : List ℕ) → isName s ≡ true → allOf isWord s ≡ true → writeText s ≡ bares s
-unfolding writeText isName
+unfolding writeText isPlain isName
 name-plain [] n w = cc
 name-plain (b ∷ s) n w = rw w
 
@@ -222,7 +225,7 @@ entry-writes t r e h p =
     with-value : (v : Value) → hasEq t ≡ true → isName (raws (upTo (isBare 61) t)) ≡ true → valueOf (past (isBare 61) t) ≡ some v
         → rewritten (t ++ r) ≡ (bares (raws (upTo (isBare 61) t)) ++ (bare 61 ∷ writeValue v)) ++ rewritten r
     with-value v q n k =
-        ap (λ (y : List Sign). rewritten (y ++ r)) (bare-split 61 t q)
+        ap (λ (y : List Sign). rewritten (y ++ r)) (bare-split 61 refl t q)
         ∙ ap rewritten (append-assoc (upTo (isBare 61) t) (bare 61 ∷ past (isBare 61) t) r)
         ∙ name-writes (upTo (isBare 61) t) (bare 61 ∷ (past (isBare 61) t ++ r)) n equal-parts
         ∙ ap (λ (y : List Sign). bares (raws (upTo (isBare 61) t)) ++ y) (parted (bare 61) (past (isBare 61) t ++ r) equal-parts
@@ -261,7 +264,7 @@ entry-parts-between l (x ∷ t) =
         → between (bare 44) (cond (not l && isBare 44 x) ([] ∷ ps) (onto x ps)) ≡ x ∷ t
     go true e [] n h = no-case n
     go true e (p ∷ ps) n h =
-        rw e (ap (λ (y : List Sign). bare 44 ∷ y) h ∙ ap (λ (y : Sign). y ∷ t) (sym (bare-is 44 x (and-r (not l) (isBare 44 x) e))))
+        rw e (ap (λ (y : List Sign). bare 44 ∷ y) h ∙ ap (λ (y : Sign). y ∷ t) (sym (bare-is 44 refl x (and-r (not l) (isBare 44 x) e))))
     go false e ps n h = rw e (onto-between x ps n ∙ ap (λ (y : List Sign). x ∷ y) h)
 
 pub entries-written : (t : List Sign) (es : List Entry) → entriesOf t ≡ some es → rewritten t ≡ between (bare 44) (map writeEntry es)
@@ -287,7 +290,7 @@ said-writes t s h = said-from (λ x. bare 61 ∷ rewritten t ≡ writeSaid x) t 
     two : (t : List Sign) (v : Value) → starts 61 t ≡ true → valueOf (drop 1 t) ≡ some v → bare 61 ∷ rewritten t ≡ bare 61 ∷ bare 61 ∷ writeValue v
     two [] v e k = cc
     two (x ∷ t) v e k =
-        ap (λ (y : List Sign). bare 61 ∷ y) (ap (λ (y : Sign). rewritten (y ∷ t)) (bare-is 61 x e) ∙ parted (bare 61) t equal-parts ∙ ap (λ (y : List Sign). bare 61 ∷ y) (whole t v k))
+        ap (λ (y : List Sign). bare 61 ∷ y) (ap (λ (y : Sign). rewritten (y ∷ t)) (bare-is 61 refl x e) ∙ parted (bare 61) t equal-parts ∙ ap (λ (y : List Sign). bare 61 ∷ y) (whole t v k))
 
 name-written : (t : List Sign) → isName (raws t) ≡ true → rewritten t ≡ bares (raws t) ++ []
 name-written t n = ap rewritten (sym (append-nil t)) ∙ name-writes t [] n refl ∙ ap (λ (y : List Sign). bares (raws t) ++ y) optional-nil
@@ -300,6 +303,6 @@ pub property-written : (t : List Sign) (p : Property) → propertyOf t ≡ some 
 unfolding writeProperty
 property-written t p h =
     property-from (λ q. rewritten t ≡ bares (q .name) ++ writeSaid (q .said)) t (λ q n. name-written t n)
-    (λ s q n k. ap rewritten (bare-split 61 t q)
+    (λ s q n k. ap rewritten (bare-split 61 refl t q)
     ∙ name-writes (upTo (isBare 61) t) (bare 61 ∷ past (isBare 61) t) n equal-parts
     ∙ ap (λ (y : List Sign). bares (raws (upTo (isBare 61) t)) ++ y) (parted (bare 61) (past (isBare 61) t) equal-parts ∙ said-writes (past (isBare 61) t) s k)) p h

@@ -8,17 +8,19 @@ use native.Mathlib.Omega.{arith}
 use lib.ListN.{length, drop, length-map}
 use lib.Dec.{eqb, leb}
 use borrow.Author.Tests.{eqb-true, ne-eqb, le-leb, leb-true, not-true}
-use Rattle.canonical.specs.Canonical.{closing, inQuotes, writeText, writeTexts, writeValue}
+use Rattle.canonical.specs.Canonical.{closing, inQuotes, isPlain, quotes, writeText, writeTexts, writeValue}
 use Rattle.forms.specs.Forms.{Value, endsQuote, isList, isPlainSign, isText, itemsIn, listOf, many, one, starts, textOf, valueOf}
-use Rattle.terms.specs.Signs.{Sign, bare, isBare, quote, stands, standsFor, two, bares, quoted, quotedEscaped}
+use Rattle.terms.specs.Signs.{Sign, bare, isBare, stands, standsFor, two, bares, quoted, quotedEscaped}
 use Rattle.text.specs.Bytes.{bytes, isDigit, isLetter, isWord, oneOf, printable}
 use Rattle.text.specs.Lists.{allOf, anyOf, between, each, isNil, parts, past, upTo}
-use Rattle.text.proofs.Basics.{and-l, and-r, or-l, no-case, all-append, all-up, parts-all, parts-between, up-at, past-at, any-at, or-case, all-mono, any-between, map-some, all-drop, or-r}
+use Rattle.text.proofs.Tests.{and-l, and-r, or-l, no-case, or-case, or-r}
+use Rattle.text.proofs.AllAny.{all-append, all-up, up-at, past-at, any-at, all-mono, map-some, all-drop}
+use Rattle.text.proofs.Parts.{parts-all, parts-between, any-between}
 use Rattle.canonical.proofs.Lexing.{okBare, okSign, good}
 use Rattle.canonical.proofs.Frame.{cleanSign}
 use Rattle.text.proofs.Classes.{within-low, within-high}
 use Rattle.terms.specs.RowWords.{turns}
-use Rattle.terms.proofs.TermLaws.{stands-bares, none-bares}
+use Rattle.terms.proofs.Bares.{stands-bares, none-bares}
 use Rattle.forms.proofs.FormCases.{value-from}
 use Rattle.forms.proofs.TextLaws.{items-some}
 
@@ -117,20 +119,17 @@ unfolding closing stands
 closing-stands [] = refl
 closing-stands (b ∷ s) = simp (quoted-stands b, closing-stands s)
 
-closing-none : (k : ℕ) (s : List ℕ) → anyOf (isBare k) (closing s) ≡ false
+closing-none : (k : ℕ) → eqb 34 k ≡ false → (s : List ℕ) → anyOf (isBare k) (closing s) ≡ false
 unfolding closing anyOf
-closing-none k [] = refl
-closing-none k (b ∷ s) = simp (quoted-bare k b, closing-none k s)
-
-abbrev isPlainText : List ℕ → Bool
-isPlainText s = not (isNil s) && allOf isWord s
+closing-none k q [] = simp q
+closing-none k q (b ∷ s) = simp (quoted-bare k b, closing-none k q s)
 
 -- by the two ways of writing
-text-case : (P : List Sign → Type 0) (s : List ℕ) → (isNil s ≡ false → allOf isWord s ≡ true → P (bares s)) → P (quote ∷ closing s) → P (writeText s)
-unfolding writeText
-text-case P s f g = go (isPlainText s) refl
+text-case : (P : List Sign → Type 0) (s : List ℕ) → (isNil s ≡ false → allOf isWord s ≡ true → P (bares s)) → P (quotes s) → P (writeText s)
+unfolding writeText isPlain
+text-case P s f g = go (isPlain s) refl
   where
-    go : (x : Bool) → isPlainText s ≡ x → P (writeText s)
+    go : (x : Bool) → isPlain s ≡ x → P (writeText s)
     go true p = rw p (f (not-true (isNil s) (and-l (not (isNil s)) (allOf isWord s) p)) (and-r (not (isNil s)) (allOf isWord s) p))
     go false p = rw p g
 
@@ -164,10 +163,10 @@ pub text-stands : (s : List ℕ) → stands (writeText s) ≡ s
 unfolding stands
 text-stands s = text-case (λ z. stands z ≡ s) s (λ n e. stands-bares s) (closing-stands s)
 
--- no byte but letters, digits and underscores stands in it bare
-pub text-none : (k : ℕ) → isWord k ≡ false → (s : List ℕ) → anyOf (isBare k) (writeText s) ≡ false
+-- no byte but letters, digits, underscores and quote marks stands in it bare
+pub text-none : (k : ℕ) → eqb 34 k ≡ false → isWord k ≡ false → (s : List ℕ) → anyOf (isBare k) (writeText s) ≡ false
 unfolding anyOf
-text-none k n s = text-case (λ z. anyOf (isBare k) z ≡ false) s (λ _ e. none-bares isWord k n s e) (closing-none k s)
+text-none k q n s = text-case (λ z. anyOf (isBare k) z ≡ false) s (λ _ e. none-bares isWord k n s e) (simp q (closing-none k q s))
 
 pub starts-none : (k : ℕ) (t : List Sign) → anyOf (isBare k) t ≡ false → starts k t ≡ false
 unfolding anyOf
@@ -196,10 +195,10 @@ unfolding writeTexts
 texts-length [] = refl
 texts-length (s ∷ ss) = ap suc (texts-length ss)
 
-pub texts-none : (k : ℕ) → isWord k ≡ false → (ss : List (List ℕ)) → allOf (λ w. not (anyOf (isBare k) w)) (writeTexts ss) ≡ true
+pub texts-none : (k : ℕ) → eqb 34 k ≡ false → isWord k ≡ false → (ss : List (List ℕ)) → allOf (λ w. not (anyOf (isBare k) w)) (writeTexts ss) ≡ true
 unfolding allOf writeTexts
-texts-none k n [] = refl
-texts-none k n (s ∷ ss) = simp (text-none k n s, texts-none k n ss)
+texts-none k q n [] = refl
+texts-none k q n (s ∷ ss) = simp (text-none k q n s, texts-none k q n ss)
 
 pub no-word-41 : isWord 41 ≡ false
 unfolding isWord
@@ -220,19 +219,19 @@ no-word-61 = refl
 items-back : (s : List ℕ) (ss : List (List ℕ)) → itemsIn (between (bare 44) (writeTexts (s ∷ ss)) ++ (bare 41 ∷ [])) ≡ writeTexts (s ∷ ss)
 unfolding itemsIn
 items-back s ss =
-    let n = any-between (isBare 41) (bare 44) (writeTexts (s ∷ ss)) refl (texts-none 41 no-word-41 (s ∷ ss)) in
+    let n = any-between (isBare 41) (bare 44) (writeTexts (s ∷ ss)) refl (texts-none 41 refl no-word-41 (s ∷ ss)) in
     ap (parts (isBare 44)) (up-at (isBare 41) (between (bare 44) (writeTexts (s ∷ ss))) (bare 41) [] n refl)
     ∙ split
   where
     split : parts (isBare 44) (between (bare 44) (writeTexts (s ∷ ss))) ≡ writeTexts (s ∷ ss)
-    split = unfold writeTexts in parts-between (isBare 44) (bare 44) (writeText s) (writeTexts ss) refl (texts-none 44 no-word-44 (s ∷ ss))
+    split = unfold writeTexts in parts-between (isBare 44) (bare 44) (writeText s) (writeTexts ss) refl (texts-none 44 refl no-word-44 (s ∷ ss))
 
 list-again : (s : List ℕ) (ss : List (List ℕ)) → length (s ∷ ss) ≤ 16
     → listOf (between (bare 44) (writeTexts (s ∷ ss)) ++ (bare 41 ∷ [])) ≡ some (many (s ∷ ss))
 unfolding listOf isList
 list-again s ss h =
     let body = between (bare 44) (writeTexts (s ∷ ss)) in
-    let n = any-between (isBare 41) (bare 44) (writeTexts (s ∷ ss)) refl (texts-none 41 no-word-41 (s ∷ ss)) in
+    let n = any-between (isBare 41) (bare 44) (writeTexts (s ∷ ss)) refl (texts-none 41 refl no-word-41 (s ∷ ss)) in
     let e = texts-length (s ∷ ss) in
     simp (
       any-at (isBare 41) body (bare 41) [] refl,
@@ -246,7 +245,7 @@ list-again s ss h =
 
 pub value-again : (v : Value) → okValue v ≡ true → valueOf (writeValue v) ≡ some v
 unfolding valueOf writeValue okValue textOf
-value-again (one s) k = simp (starts-none 40 (writeText s) (text-none 40 no-word-40 s), text-is s, text-stands s)
+value-again (one s) k = simp (starts-none 40 (writeText s) (text-none 40 refl no-word-40 s), text-is s, text-stands s)
 value-again (many []) k = no-case (sym k)
 value-again (many (s ∷ ss)) k = list-again s ss (leb-true (length (s ∷ ss)) 16 (and-l (leb (length (s ∷ ss)) 16) (allOf (allOf printable) (s ∷ ss)) k))
 
@@ -270,7 +269,7 @@ value-good (many (s ∷ ss)) w k =
 
 pub value-no-eq : (v : Value) → okValue v ≡ true → starts 61 (writeValue v) ≡ false
 unfolding writeValue
-value-no-eq (one s) k = starts-none 61 (writeText s) (text-none 61 no-word-61 s)
+value-no-eq (one s) k = starts-none 61 (writeText s) (text-none 61 refl no-word-61 s)
 value-no-eq (many ss) k = refl
 
 -- ---- what is known of a value that was read

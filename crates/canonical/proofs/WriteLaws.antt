@@ -11,15 +11,16 @@ use lib.Dec.{eqb}
 use borrow.Author.Tests.{eq-eqb, ne-eqb}
 use Rattle.text.specs.Bytes.{bytes, oneOf, sameBytes, isWord}
 use Rattle.text.specs.Lists.{allOf, anyOf, runLen}
-use Rattle.text.proofs.Basics.{either, no-case}
+use Rattle.text.proofs.Tests.{either, no-case}
 use Rattle.text.proofs.Scans.{drop-step, run-all, all-run, scan-within}
 use Rattle.text.proofs.Writes.{sets-append, sets-rest}
 use Rattle.terms.specs.declared.Mode.{Mode}
 use Rattle.terms.specs.declared.Mode.the-variants.{Out, OutGrave, In, InGrave}
 use Rattle.terms.specs.Signs.{Sign, bare, twelve, two, after, gives, atEnd, signs, raw, raws, stands, meant}
-use Rattle.terms.proofs.TermLaws.{raws-signs, raws-bares, raws-append}
-use Rattle.canonical.specs.Canonical.{inQuotes, closing, writeText}
-use Rattle.canonical.specs.Written.{graves, graved, gravedAll, quotes, isPlain, parting, textSigns, rewriteFrom, rewritten, textIn, textsIn, isParting, textLen, leadsDash, slash, slashed}
+use Rattle.terms.proofs.SignBytes.{raws-signs, raws-append}
+use Rattle.terms.proofs.Bares.{raws-bares}
+use Rattle.canonical.specs.Canonical.{inQuotes, closing, quotes, isPlain, writeText}
+use Rattle.canonical.specs.Written.{graves, graved, gravedAll, parting, textSigns, rewriteFrom, rewritten, textWritten, textsIn, isParting, textLen, leadsDash, slash, slashed}
 use Rattle.canonical.proofs.TextWriting.{rewrite-over}
 use Rattle.terms.proofs.ByteCases.{gives-case, end-case}
 use Rattle.forms.proofs.TextLaws.{no-comma, no-open, no-close, no-equal}
@@ -110,22 +111,22 @@ plain-run (b ∷ s) h = either (allOf isWord (b ∷ s)) yes′ no′
     no′ e = rw e (ne-eqb (runLen isWord (b ∷ s)) (length (b ∷ s)) (λ z. no-case (sym (run-all isWord (b ∷ s) z) ∙ e)))
 
 pub text-plain : (s : List ℕ) → isPlain s ≡ true → raws (writeText s) ≡ s
-unfolding isPlain writeText
+unfolding writeText
 text-plain s e = rw e (raws-bares s)
 
 pub text-quoted : (s : List ℕ) → isPlain s ≡ false → raws (writeText s) ≡ raws (quotes s)
-unfolding isPlain writeText
+unfolding writeText
 text-quoted s e = rw e
 
 -- ---- a term text by text
 
-pub text-in-none : (s : List ℕ) → length s ≡ 0 → textIn s ≡ []
-unfolding textIn
+pub text-in-none : (s : List ℕ) → length s ≡ 0 → textWritten s ≡ []
+unfolding textWritten
 text-in-none [] h = refl
 text-in-none (b ∷ s) h = absurd (omega arith)
 
-pub text-in-some : (s : List ℕ) → (length s ≡ 0 → ⊥) → textIn s ≡ raws (writeText (meant s))
-unfolding textIn
+pub text-in-some : (s : List ℕ) → (length s ≡ 0 → ⊥) → textWritten s ≡ raws (writeText (meant s))
+unfolding textWritten
 text-in-some [] h = absurd (h refl)
 text-in-some (b ∷ s) h = refl
 
@@ -213,8 +214,8 @@ text-by m held (b ∷ s) = go (isParting m b) refl (text-by (after m b) (held ++
         (rewrite-over held (gives m b) (signs (after m b) s) (byte-solid m b e) ∙ ih
         ∙ ap (λ (z : List Sign). textSigns z ++ afterText (drop (textLen (after m b) s) s)) (append-assoc held (gives m b) (signs (after m b) (take (textLen (after m b) s) s))))
 
-text-signs-in : (s : List ℕ) → raws (textSigns (signs Out s)) ≡ textIn s
-unfolding textIn signs textSigns raws meant
+text-signs-in : (s : List ℕ) → raws (textSigns (signs Out s)) ≡ textWritten s
+unfolding textWritten signs textSigns raws meant
 text-signs-in [] = refl
 text-signs-in (b ∷ s) = go (signs Out (b ∷ s)) refl
   where
@@ -222,7 +223,7 @@ text-signs-in (b ∷ s) = go (signs Out (b ∷ s)) refl
     go [] e = let k : [] ≡ b ∷ s = ap raws (sym e) ∙ raws-signs (b ∷ s) in absurd (let z : _≡_ {A = ℕ} 0 1 = cc in omega arith)
     go (x ∷ t) e = ap (λ (z : List Sign). raws (textSigns z)) e ∙ sym (ap (λ (z : List Sign). raws (writeText (stands z))) e)
 
-texts-by : (s : List ℕ) → textsIn s ≡ textIn (take (textLen Out s) s) ++ raws (afterText (drop (textLen Out s) s))
+texts-by : (s : List ℕ) → textsIn s ≡ textWritten (take (textLen Out s) s) ++ raws (afterText (drop (textLen Out s) s))
 unfolding textsIn rewritten
 texts-by s =
     ap raws (text-by Out [] s)
@@ -235,25 +236,25 @@ after-bytes c r = refl
 
 -- the text at a place is the last, or a byte that parts and the rest follow it
 module _ (s : List ℕ) (i e : ℕ) (p : e ≡ i + textLen Out (drop i s)) where
-  part : textsIn (drop i s) ≡ textIn (take (e - i) (drop i s)) ++ raws (afterText (drop e s))
+  part : textsIn (drop i s) ≡ textWritten (take (e - i) (drop i s)) ++ raws (afterText (drop e s))
   part =
       let n : e - i ≡ textLen Out (drop i s) = omega arith in
       texts-by (drop i s)
-      ∙ ap (λ (k : ℕ). textIn (take k (drop i s)) ++ raws (afterText (drop (textLen Out (drop i s)) (drop i s)))) (sym n)
-      ∙ ap (λ (z : List ℕ). textIn (take (e - i) (drop i s)) ++ raws (afterText z)) (drop-drop (textLen Out (drop i s)) i s ∙ ap (λ (k : ℕ). drop k s) (sym p))
+      ∙ ap (λ (k : ℕ). textWritten (take k (drop i s)) ++ raws (afterText (drop (textLen Out (drop i s)) (drop i s)))) (sym n)
+      ∙ ap (λ (z : List ℕ). textWritten (take (e - i) (drop i s)) ++ raws (afterText z)) (drop-drop (textLen Out (drop i s)) i s ∙ ap (λ (k : ℕ). drop k s) (sym p))
 
-  pub texts-last : e ≡ length s → textsIn (drop i s) ≡ textIn (take (e - i) (drop i s))
+  pub texts-last : e ≡ length s → textsIn (drop i s) ≡ textWritten (take (e - i) (drop i s))
   texts-last h =
       let k : length s ≤ e = omega arith in
       part
-      ∙ ap (λ (z : List ℕ). textIn (take (e - i) (drop i s)) ++ raws (afterText z)) (drop-of-length-le s k)
-      ∙ (unfold raws in append-nil (textIn (take (e - i) (drop i s))))
+      ∙ ap (λ (z : List ℕ). textWritten (take (e - i) (drop i s)) ++ raws (afterText z)) (drop-of-length-le s k)
+      ∙ (unfold raws in append-nil (textWritten (take (e - i) (drop i s))))
 
-  pub texts-more : e < length s → textsIn (drop i s) ≡ textIn (take (e - i) (drop i s)) ++ (getD s e 0 ∷ textsIn (drop (e + 1) s))
+  pub texts-more : e < length s → textsIn (drop i s) ≡ textWritten (take (e - i) (drop i s)) ++ (getD s e 0 ∷ textsIn (drop (e + 1) s))
   texts-more h =
       part
-      ∙ ap (λ (z : List ℕ). textIn (take (e - i) (drop i s)) ++ raws (afterText z)) (drop-step s e h)
-      ∙ ap (λ (z : List ℕ). textIn (take (e - i) (drop i s)) ++ z) (after-bytes (getD s e 0) (drop (e + 1) s))
+      ∙ ap (λ (z : List ℕ). textWritten (take (e - i) (drop i s)) ++ raws (afterText z)) (drop-step s e h)
+      ∙ ap (λ (z : List ℕ). textWritten (take (e - i) (drop i s)) ++ z) (after-bytes (getD s e 0) (drop (e + 1) s))
 
   -- the text ends within the term
   pub text-fits : i ≤ length s → e ≤ length s

@@ -13,7 +13,7 @@ use Rattle.terms.specs.Signs.{Sign, bare, escaped, quote, quoted, quotedEscaped
 use Rattle.words.specs.Words.{verbName, optionName, sessionName}
 use Rattle.forms.specs.Forms.{Value, one, many, Entry, Said, alone, equals, matches, Property}
 use Rattle.forms.specs.Targets.{Target, session, path}
-use Rattle.reading.specs.Command.{Argument, number, text, items, Item, verb, option, argument, target, prop}
+use Rattle.reading.specs.Command.{Argument, numeral, text, items, Item, verb, option, argument, target, prop}
 use Rattle.reading.specs.Reading.{Part, Reading, refusal, read}
 
 -- in quotes, with GRAVE before GRAVE and `"`
@@ -25,9 +25,17 @@ unfoldable pub closing : List ℕ → List Sign
 closing [] = quote ∷ []
 closing (b ∷ s) = inQuotes b ∷ closing s
 
--- a value or list item of one or more letters, digits and underscores plain, any other quoted
+-- a text in quotes
+abbrev pub quotes : List ℕ → List Sign
+quotes s = quote ∷ closing s
+
+-- one or more letters, digits and underscores
+unfoldable pub isPlain : List ℕ → Bool
+isPlain s = not (isNil s) && allOf isWord s
+
+-- a value or list item of such bytes plain, any other quoted
 unfoldable pub writeText : List ℕ → List Sign
-writeText s = cond (not (isNil s) && allOf isWord s) (bares s) (quote ∷ closing s)
+writeText s = cond (isPlain s) (bares s) (quotes s)
 
 unfoldable pub writeTexts : List (List ℕ) → List (List Sign)
 writeTexts [] = []
@@ -53,8 +61,11 @@ unfoldable pub writeProperty : Property → List Sign
 writeProperty p = bares (p .name) ++ writeSaid (p .said)
 
 -- a source or destination with GRAVE before space, GRAVE, `"` and a leading `-`
+abbrev pub three : List ℕ
+three = bytes " `\""
+
 unfoldable pub escapes : Bool → ℕ → Sign
-escapes leading b = cond (oneOf (bytes " `\"") b || (leading && eqb b 45)) (escaped b) (bare b)
+escapes leading b = cond (oneOf three b || (leading && eqb b 45)) (escaped b) (bare b)
 
 unfoldable pub writeMore : List ℕ → List Sign
 writeMore [] = []
@@ -65,7 +76,7 @@ writePlace [] = []
 writePlace (b ∷ s) = escapes true b ∷ writeMore s
 
 abbrev pub writeArgument : Argument → List Sign
-writeArgument (number s) = bares s
+writeArgument (numeral s) = bares s
 writeArgument (text s) = writePlace s
 writeArgument (items es) = between (bare 44) (map writeEntry es)
 

@@ -1,3 +1,3 @@
 pub mod Canonical
 pub mod Written
-pub mod Lines
+pub mod Writings

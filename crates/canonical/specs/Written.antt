@@ -1,16 +1,16 @@
 -- What the code writes of a term, by the term's own bytes. proofs/TermWriting has it that this is the canonical writing of the part that the term is.
 use Prim.Native.Nat.{ℕ, suc, _+_}
 use mathlib.Core.List.{List, [], _∷_, _++_, map}
-use mathlib.Core.Bool.{Bool, true, false, cond, not, _&&_, _||_}
+use mathlib.Core.Bool.{Bool, true, false, cond, _||_}
 use lib.ListN.{length, take}
 use lib.Dec.{eqb}
 use Rattle.text.specs.declared.Answer.{Answer}
 use Rattle.text.specs.declared.Answer.the-variants.{Wrote, Refused}
-use Rattle.text.specs.Bytes.{bytes, oneOf, sameBytes, isWord}
-use Rattle.text.specs.Lists.{allOf, each, between, isNil}
+use Rattle.text.specs.Bytes.{bytes, oneOf, sameBytes}
+use Rattle.text.specs.Lists.{each, between, isNil}
 use Rattle.terms.specs.declared.Mode.{Mode}
 use Rattle.terms.specs.declared.Mode.the-variants.{Out, OutGrave, In, InGrave}
-use Rattle.terms.specs.Signs.{Sign, bare, quote, isBare, two, after, signs, raws, stands, meant}
+use Rattle.terms.specs.Signs.{Sign, bare, isBare, two, after, signs, raws, stands, meant}
 use Rattle.words.specs.declared.Kind.{Kind}
 use Rattle.words.specs.declared.Kind.the-variants.{Mere, Keep, Level, Place, Entries}
 use Rattle.words.specs.Words.{verbName, optionName, kindOf}
@@ -18,14 +18,14 @@ use Rattle.reading.specs.declared.Shown.{Shown}
 use Rattle.reading.specs.declared.Shown.the-variants as shown
 use Rattle.reading.specs.Command.{Item}
 use Rattle.reading.specs.Reading.{Reading, refusal, read}
-use Rattle.canonical.specs.Canonical.{closing, writeText, writeItem, itemsOf}
+use Rattle.canonical.specs.Canonical.{three, writeText, writeItem, itemsOf}
 
 -- ---- bytes with GRAVEs
 
 -- GRAVE comes before GRAVE and `"`, and outside quotes before a space too
 abbrev pub graves : Bool → ℕ → Bool
 graves true b = oneOf two b
-graves false b = oneOf (bytes " `\"") b
+graves false b = oneOf three b
 
 unfoldable pub graved : Bool → ℕ → List ℕ
 graved q b = cond (graves q b) (96 ∷ b ∷ []) (b ∷ [])
@@ -35,14 +35,6 @@ gravedAll q [] = []
 gravedAll q (b ∷ s) = graved q b ++ gravedAll q s
 
 -- ---- the texts of a property, or of the items of display and output, with what parts them
-
--- a text in quotes
-abbrev pub quotes : List ℕ → List Sign
-quotes s = quote ∷ closing s
-
--- written plain
-unfoldable pub isPlain : List ℕ → Bool
-isPlain s = not (isNil s) && allOf isWord s
 
 -- a bare `(` `)` `,` or `=`
 unfoldable pub parting : Sign → Bool
@@ -65,8 +57,8 @@ unfoldable pub rewritten : List Sign → List Sign
 rewritten t = rewriteFrom [] t
 
 -- the same by bytes: a text, and a whole term
-unfoldable pub textIn : List ℕ → List ℕ
-textIn s = cond (isNil s) [] (raws (writeText (meant s)))
+unfoldable pub textWritten : List ℕ → List ℕ
+textWritten s = cond (isNil s) [] (raws (writeText (meant s)))
 
 unfoldable pub textsIn : List ℕ → List ℕ
 textsIn s = raws (rewritten (signs Out s))
@@ -130,6 +122,6 @@ writtenIn first (refusal n p) = []
 writtenIn first (read ps) = restOf first (itemsOf ps)
 
 -- how many bytes a reading's writing has, w bytes before it, or its refusal
-abbrev pub totalFrom : ℕ → Bool → Reading → Answer
-totalFrom w first (refusal n p) = Refused n p
-totalFrom w first (read ps) = Wrote (w + length (restOf first (itemsOf ps)))
+abbrev pub writtenFrom : ℕ → Bool → Reading → Answer
+writtenFrom w first (refusal n p) = Refused n p
+writtenFrom w first (read ps) = Wrote (w + length (restOf first (itemsOf ps)))

@@ -1,6 +1,6 @@
 // Canonical writing of a line.
 use reading::Cursor;
-use reading::Given;
+use reading::Offer;
 use reading::Shown;
 use terms::Mode;
 use text::Answer;
@@ -15,10 +15,10 @@ ghost use lib.Seq.{sets};
 ghost use Rattle.terms.specs.Signs.{raws};
 ghost use Rattle.words.specs.Words.{verbName, optionName};
 ghost use Rattle.reading.specs.Reading.{readingOf};
-ghost use Rattle.reading.specs.Cursor.{left, start};
+ghost use Rattle.reading.specs.Cursor.{left, firstCursor};
 ghost use Rattle.reading.specs.Shown.{verdictIn};
-ghost use Rattle.canonical.specs.Canonical.{writeText, writingAnswer, writingRoom};
-ghost use Rattle.canonical.specs.Written.{graves, graved, gravedAll, quotes, isPlain, textIn, textsIn, isParting, textLen, leadsDash, dashGrave, placeIn, slash, slashed, argumentIn, written, gap, writtenIn, totalFrom};
+ghost use Rattle.canonical.specs.Canonical.{quotes, isPlain, writeText, writingAnswer, writingRoom};
+ghost use Rattle.canonical.specs.Written.{graves, graved, gravedAll, textWritten, textsIn, isParting, textLen, leadsDash, dashGrave, placeIn, slash, slashed, argumentIn, written, gap, writtenIn, writtenFrom};
 
 // Every writer tells where its text ends. What would stand past the room's end is not written, but counted.
 
@@ -26,13 +26,10 @@ ghost use Rattle.canonical.specs.Written.{graves, graved, gravedAll, quo
 fn is_graved(b: u8, quoted: bool) -> bool
     ensures { λ r. ⌜ r ≡ graves quoted b ⌝ }
 {
-    if quoted {
-        return terms::is_two(b);
-    }
     match b {
-        b' ' => true,
         b'`' => true,
         b'"' => true,
+        b' ' => !quoted,
         _ => false,
     }
 }
@@ -107,7 +104,7 @@ fn put_value(out: &mut [u8], at: usize, s: &[u8]) -> usize
 // A text of a property, or of the items of display and output; nothing where there is none. One of letters, digits and underscores stands for itself.
 fn put_text(out: &mut [u8], at: usize, s: &[u8]) -> usize
     requires { ⌜ (length (now s) ≤ 1024) × (at + 4 * length (now s) ≤ 65536) ⌝ }
-    ensures { λ r. ⌜ (r ≡ at + length (textIn (now (s .entry)))) × (now (out .exit) ≡ sets (now (out .entry)) at (textIn (now (s .entry)))) × (r ≤ at + 4 * length (now (s .entry))) ⌝ }
+    ensures { λ r. ⌜ (r ≡ at + length (textWritten (now (s .entry)))) × (now (out .exit) ≡ sets (now (out .entry)) at (textWritten (now (s .entry)))) × (r ≤ at + 4 * length (now (s .entry))) ⌝ }
 {
     if s.len() == 0 {
         return at;
@@ -125,14 +122,14 @@ fn is_parting(m: Mode, b: u8) -> bool
     ensures { λ r. ⌜ r ≡ isParting m b ⌝ }
 {
     match m {
-        Mode::Out => is_mark(b),
+        Mode::Out => parts_texts(b),
         Mode::OutGrave => false,
         Mode::In => false,
         Mode::InGrave => false,
     }
 }
 
-fn is_mark(b: u8) -> bool
+fn parts_texts(b: u8) -> bool
     ensures { λ r. ⌜ r ≡ isParting Mode.Out b ⌝ }
 {
     match b {
@@ -184,10 +181,10 @@ fn put_texts(out: &mut [u8], at: usize, s: &[u8]) -> usize
 fn leads_dash(s: &[u8]) -> bool
     ensures { λ r. ⌜ r ≡ leadsDash (now (s .entry)) ⌝ }
 {
-    if s.len() < 2 {
-        return false;
+    if 2 <= s.len() {
+        return text::same(&s[..2], b"`-");
     }
-    text::same(&s[..2], b"`-")
+    false
 }
 
 fn put_dash(out: &mut [u8], at: usize, leads: bool) -> usize
@@ -301,18 +298,18 @@ fn put_gap(out: &mut [u8], at: usize, first: bool) -> usize
 // Term by term from a line's first one on: the line's refusal, or how many bytes its writing has. Where it is not refused, the writing stands at the room's start.
 fn put_line(line: &[u8], out: &mut [u8]) -> Answer
     requires { ⌜ length (now line) ≤ 1024 ⌝ }
-    ensures { λ r. ⌜ (r ≡ totalFrom 0 true (left (now (line .entry)) start)) × (verdictIn (left (now (line .entry)) start) ≡ Verdict.Fine → now (out .exit) ≡ sets (now (out .entry)) 0 (writtenIn true (left (now (line .entry)) start))) ⌝ }
+    ensures { λ r. ⌜ (r ≡ writtenFrom 0 true (left (now (line .entry)) firstCursor)) × (verdictIn (left (now (line .entry)) firstCursor) ≡ Verdict.Fine → now (out .exit) ≡ sets (now (out .entry)) 0 (writtenIn true (left (now (line .entry)) firstCursor))) ⌝ }
 {
     let mut c = Cursor::begin();
     let mut w: usize = 0;
     let mut first = true;
     loop {
         let s = c.next(line);
-        let g = s.given;
+        let g = s.offer;
         match g {
-            Given::End => return Answer::Wrote(w),
-            Given::Refused { number, place } => return Answer::Refused { number, place },
-            Given::Part { item, start, len } => {
+            Offer::End => return Answer::Wrote(w),
+            Offer::Refused { number, place } => return Answer::Refused { number, place },
+            Offer::Part { item, start, len } => {
                 let v = put_gap(out, w, first);
                 w = put_term(out, v, item, &line[start..start + len]);
                 first = false;
@@ -324,7 +321,7 @@ fn put_line(line: &[u8], out: &mut [u8]) -> Answer
 
 // The same of a whole line: its refusal, or how many bytes its writing has, which stands at the room's start, as far as it goes.
 fn put_writing(line: &[u8], out: &mut [u8]) -> Answer
-    ensures { λ r. ⌜ (r ≡ totalFrom 0 true (readingOf (now (line .entry)))) × (verdictIn (readingOf (now (line .entry))) ≡ Verdict.Fine → now (out .exit) ≡ sets (now (out .entry)) 0 (writtenIn true (readingOf (now (line .entry))))) ⌝ }
+    ensures { λ r. ⌜ (r ≡ writtenFrom 0 true (readingOf (now (line .entry)))) × (verdictIn (readingOf (now (line .entry))) ≡ Verdict.Fine → now (out .exit) ≡ sets (now (out .entry)) 0 (writtenIn true (readingOf (now (line .entry))))) ⌝ }
 {
     let v = terms::lexical(line);
     match v {

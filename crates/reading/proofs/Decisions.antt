@@ -12,7 +12,7 @@ use Rattle.text.proofs.Slices.{part-from}
 use Rattle.terms.specs.declared.Mode.the-variants.{Out}
 use Rattle.terms.specs.Signs.{signs, raws, hasBare}
 use Rattle.terms.specs.Marks.{startsBare}
-use Rattle.terms.proofs.TermLaws.{raws-signs}
+use Rattle.terms.proofs.SignBytes.{raws-signs}
 use Rattle.words.specs.declared.Known.{Known}
 use Rattle.words.specs.declared.Known.the-variants.{Is, Unknown}
 use Rattle.words.specs.declared.Kind.{Kind}
@@ -23,7 +23,7 @@ use Rattle.forms.specs.declared.Where.{Where}
 use Rattle.forms.specs.declared.Where.the-variants as where′
 use Rattle.forms.specs.Forms.{starts, Entry, isKeep, isLevel, isPlace, entriesOf, Property, propertyOf, topicOf}
 use Rattle.forms.specs.Targets.{Target, session, path, targetOf}
-use Rattle.forms.specs.Answers.{isSome, shapeOf, whereOf, topicIn, targetIn}
+use Rattle.forms.specs.Answers.{isSome, shapeOf, whereOf, topicIn, whereIn}
 use Rattle.reading.specs.declared.Phase.the-variants.{Options, Rest}
 use Rattle.reading.specs.declared.Shown.the-variants as shown
 use Rattle.reading.specs.declared.Decided.{Decided}
@@ -127,8 +127,8 @@ target-where none = refl
 target-where (some session) = refl
 target-where (some (path r ss)) = refl
 
-pub target-decided : (t : List ℕ) → byWhere (targetIn t) ≡ decidedOf (decideTarget (signs Out t))
-unfolding decideTarget targetIn
+pub target-decided : (t : List ℕ) → byWhere (whereIn t) ≡ decidedOf (decideTarget (signs Out t))
+unfolding decideTarget whereIn
 target-decided t = rw (raws-signs t) (target-where (targetOf t))
 
 -- ---- a property

@@ -1,7 +1,12 @@
--- Document 01's thirteen lines, proved together by computation.
+-- Document 01's thirteen lines, proved together by computation; and worked examples.
+use Prim.Native.Nat.{ℕ}
 use Prim.Native.String.{String}
-use mathlib.Core.List.{map}
+use mathlib.Core.List.{List, [], _∷_, map}
+use mathlib.Core.Bool.{false}
+use lib.ListN.{replicate}
 use mathlib.Core.Path.{_≡_, refl}
+use Rattle.text.specs.declared.Answer.the-variants.{Refused}
+use Rattle.text.specs.Room.{wrote, fitted, filled}
 use Rattle.text.specs.Bytes.{bytes, oneOf, sameBytes, isWord}
 use Rattle.text.specs.Lists.{allOf, anyOf, upTo, past, runLen, parts, walk, every}
 use Rattle.text.specs.Decimal.{valueFrom, isDecimal}
@@ -12,9 +17,27 @@ use Rattle.words.specs.Words.{verbNames, longNames, shortNames, names, find, ve
 use Rattle.forms.specs.Forms.{isName, isKeep, isLevel, isPlace, isPlainSign, endsQuote, isText, itemsIn, isList, listOf, textOf, valueOf, entryOf, entryParts, entriesOf, saidOf, propertyOf, topicOf}
 use Rattle.forms.specs.Targets.{tagLen, isNumbered, isStarred, isSegment, areSegments, segmentsOf, pathOf, targetOf}
 use Rattle.reading.specs.Reading.{decideVerb, decideOption, decideArgument, decideTarget, decideProperty, decideAfter, decide, walkTerms, readingOf}
-use Rattle.reading.specs.Records.{recordsOf}
-use Rattle.reading.specs.Lines.{listed, lines, answers}
+use Rattle.reading.specs.Records.{recordsOf, listedIn, refusalRecord, cutRecord, targetSpan, targetPart}
+use Rattle.reading.specs.Cursor.{firstCursor}
+use Rattle.reading.specs.declared.Phase.the-variants.{First}
+use Rattle.reading.specs.Lines.{lines}
 
-pub lines-answers : map (λ (s : String). listed (readingOf (bytes s))) lines ≡ answers
-unfolding lines answers bytes oneOf sameBytes isWord allOf anyOf upTo past runLen parts walk every valueFrom isDecimal twelve two after gives signs raws stands termsFrom termsOf longFlaw oddFlaw endMode openedAt openFlaw manyFrom manyFlaw lexicalOf verbNames longNames shortNames names find verbOf optionOf kinds kindOf allName sessionName isName isKeep isLevel isPlace isPlainSign endsQuote isText itemsIn isList listOf textOf valueOf entryOf entryParts entriesOf saidOf propertyOf topicOf tagLen isNumbered isStarred isSegment areSegments segmentsOf pathOf targetOf decideVerb decideOption decideArgument decideTarget decideProperty decideAfter decide walkTerms readingOf recordsOf
+-- of each line with its answer: the line's records are that answer
+pub lines-answers : map (λ (l : String × List ℕ). listedIn (readingOf (bytes (l .0)))) lines ≡ map (λ (l : String × List ℕ). l .1) lines
+unfolding lines bytes oneOf sameBytes isWord allOf anyOf upTo past runLen parts walk every valueFrom isDecimal twelve two after gives signs raws stands termsFrom termsOf longFlaw oddFlaw endMode openedAt openFlaw manyFrom manyFlaw lexicalOf verbNames longNames shortNames names find verbOf optionOf kinds kindOf allName sessionName isName isKeep isLevel isPlace isPlainSign endsQuote isText itemsIn isList listOf textOf valueOf entryOf entryParts entriesOf saidOf propertyOf topicOf tagLen isNumbered isStarred isSegment areSegments segmentsOf pathOf targetOf decideVerb decideOption decideArgument decideTarget decideProperty decideAfter decide walkTerms readingOf recordsOf
 lines-answers = refl
+
+-- before a line's first term nothing is passed, seen or counted
+pub first-cursor : (firstCursor .at ≡ 0) × (firstCursor .state .phase ≡ First) × (firstCursor .state .seen ≡ replicate 13 false) × (firstCursor .state .count ≡ 0)
+first-cursor = (refl, refl, refl, refl)
+
+-- a line without a target, and lines that are refused at the target and after it, give no part
+pub no-target : (targetPart (bytes "show") ≡ []) × (targetPart (bytes "cd /system1/") ≡ []) × (targetPart (bytes "reset /system1 -f") ≡ [])
+unfolding targetPart targetSpan bytes oneOf sameBytes isWord allOf anyOf upTo past runLen parts walk every valueFrom isDecimal twelve two after gives signs raws stands termsFrom termsOf longFlaw oddFlaw endMode openedAt openFlaw manyFrom manyFlaw lexicalOf verbNames longNames shortNames names find verbOf optionOf kinds kindOf allName sessionName isName isKeep isLevel isPlace isPlainSign endsQuote isText itemsIn isList listOf textOf valueOf entryOf entryParts entriesOf saidOf propertyOf topicOf tagLen isNumbered isStarred isSegment areSegments segmentsOf pathOf targetOf decideVerb decideOption decideArgument decideTarget decideProperty decideAfter decide walkTerms readingOf
+no-target = (refl, refl, refl)
+
+-- the records that a lister makes, in room of one byte too few and of the size
+pub no-room :
+    (fitted 3 (refusalRecord 4 6) ≡ Refused 19 0) × (filled (1 ∷ 2 ∷ 3 ∷ []) (refusalRecord 4 6) ≡ 1 ∷ 2 ∷ 3 ∷ []) × (fitted 0 cutRecord ≡ Refused 19 0) × (filled (1 ∷ []) cutRecord ≡ 7 ∷ [])
+unfolding fitted filled wrote
+no-room = (refl, refl, refl, refl)

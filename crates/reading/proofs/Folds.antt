@@ -10,56 +10,37 @@ use Rattle.text.specs.declared.Answer.the-variants as answer
 use Rattle.text.specs.declared.Verdict.{Verdict}
 use Rattle.text.specs.declared.Verdict.the-variants.{Fine, Flawed}
 use Rattle.text.specs.Lists.{isNil}
-use Rattle.text.proofs.Basics.{no-case}
+use Rattle.text.proofs.Tests.{no-case}
 use Rattle.text.proofs.Writes.{fitted-room, fitted-none, filled-none, filled-sets}
 use Rattle.terms.specs.Terms.{Term, termsOf}
 use Rattle.terms.specs.Rows.{lexicalOf}
-use Rattle.words.specs.declared.Kind.{Kind}
-use Rattle.words.specs.declared.Kind.the-variants.{Mere, Keep, Level, Place, Entries}
-use Rattle.words.specs.Words.{kindOf}
 use Rattle.reading.specs.declared.State.{State}
 use Rattle.reading.specs.declared.Cursor.{Cursor}
 use Rattle.reading.specs.declared.Shown.{Shown}
-use Rattle.reading.specs.declared.Shown.the-variants as shown
-use Rattle.reading.specs.Command.{Item, verb, option, argument, target, prop}
+use Rattle.reading.specs.Command.{Item, verb, option, argument, target, prop, shownOf}
 use Rattle.reading.specs.Reading.{Decision, refuses, takes, decide, next, begin, Part, Reading, refusal, read, adding, going, partOf, walkTerms, readingOf}
 use Rattle.reading.specs.Records.{recordOf, recordsOf, readRecords, answerIn, roomIn, span, targetSpan, targetIn}
-use Rattle.reading.specs.Cursor.{shownOf, left, start}
-use Rattle.reading.specs.Shown.{verdictIn, neededIn, recordShown, optionSize, recordSize, recordsIn, totalFrom, bytesIn, isTarget}
-use Rattle.reading.proofs.Steps.{record-shown, record-size, Stepped}
+use Rattle.reading.specs.Cursor.{left, firstCursor}
+use Rattle.reading.specs.Shown.{verdictIn, neededIn, recordsIn, totalFrom, bytesIn, isTarget}
+use Rattle.reading.proofs.Steps.{Stepped}
 use Rattle.terms.proofs.RowLaws.{no-row}
 use Rattle.terms.proofs.ScanLaws.{long-line}
-
--- no record has more than ten bytes
-pub size-most : (x : Shown) → recordSize x ≤ 10
-size-most (shown.Verb k) = omega arith
-size-most (shown.Option k) = go (kindOf k)
-  where
-    go : (d : Kind) → optionSize d ≤ 10
-    go Mere = omega arith
-    go Keep = omega arith
-    go Level = omega arith
-    go Place = omega arith
-    go Entries = omega arith
-size-most (shown.Argument k) = omega arith
-size-most shown.Target = omega arith
-size-most (shown.Property m o) = omega arith
 
 -- ---- one part more
 
 module _ (x : Shown) (a n : ℕ) (i : Item) (shows : shownOf i ≡ x) where
-  record-is : recordOf i a n ≡ recordShown x a n
-  record-is = sym (record-shown i a n) ∙ ap (λ (y : Shown). recordShown y a n) shows
+  record-is : recordOf (shownOf i) a n ≡ recordOf x a n
+  record-is = ap (λ (y : Shown). recordOf y a n) shows
 
-  add-total : (k : ℕ) (r : Reading) → totalFrom k (adding (record { start = a; len = n; item = i }) r) ≡ totalFrom (k + recordSize x) r
+  add-total : (k : ℕ) (r : Reading) → totalFrom k (adding (record { start = a; len = n; item = i }) r) ≡ totalFrom (k + length (recordOf x a n)) r
   unfolding recordsOf
   add-total k (refusal j p) = refl
   add-total k (read ps) =
-      let l = length-append (recordOf i a n) (recordsOf ps) in
-      let m : length (recordOf i a n) ≡ recordSize x = ap length record-is ∙ record-size x a n in
+      let l = length-append (recordOf (shownOf i) a n) (recordsOf ps) in
+      let m = ap length record-is in
       ap answer.Wrote (omega arith)
 
-  add-records : (r : Reading) → verdictIn r ≡ Fine → recordsIn (adding (record { start = a; len = n; item = i }) r) ≡ recordShown x a n ++ recordsIn r
+  add-records : (r : Reading) → verdictIn r ≡ Fine → recordsIn (adding (record { start = a; len = n; item = i }) r) ≡ recordOf x a n ++ recordsIn r
   unfolding recordsOf
   add-records (refusal j p) e = let z : _≡_ {A = ℕ} 0 1 = cc in absurd (omega arith)
   add-records (read ps) e = ap (λ (t : List ℕ). t ++ recordsOf ps) record-is
@@ -81,13 +62,13 @@ module _ (x : Shown) (a n : ℕ) (i : Item) (shows : shownOf i ≡ x) where
       go (prop y) h = rw (← h)
 
 module _ (line : List ℕ) (c : Cursor) (x : Shown) (a n : ℕ) (after : Cursor) (s : Stepped line c x a n after) where
-  pub total-part : (k : ℕ) → totalFrom k (left line c) ≡ totalFrom (k + recordSize x) (left line after)
+  pub total-part : (k : ℕ) → totalFrom k (left line c) ≡ totalFrom (k + length (recordOf x a n)) (left line after)
   total-part k = ap (totalFrom k) (s .leaves) ∙ add-total x a n (s .item) (s .shows) k (left line after)
 
   pub verdict-part : verdictIn (left line c) ≡ verdictIn (left line after)
   verdict-part = ap verdictIn (s .leaves) ∙ add-verdict x a n (s .item) (s .shows) (left line after)
 
-  pub records-part : verdictIn (left line c) ≡ Fine → recordsIn (left line c) ≡ recordShown x a n ++ recordsIn (left line after)
+  pub records-part : verdictIn (left line c) ≡ Fine → recordsIn (left line c) ≡ recordOf x a n ++ recordsIn (left line after)
   records-part e = ap recordsIn (s .leaves) ∙ add-records x a n (s .item) (s .shows) (left line after) (sym verdict-part ∙ e)
 
   pub target-part : verdictIn (left line c) ≡ Fine → targetIn (left line c) ≡ cond (isTarget x) (span a n) (targetIn (left line after))
@@ -100,7 +81,7 @@ refused-fine r k p e f = absurd (let z : _≡_ {A = ℕ} 0 1 = cc (ap verdictIn 
 -- ---- a whole line
 
 module _ (line : List ℕ) where
-  pub fine-left : lexicalOf line ≡ Fine → readingOf line ≡ left line start
+  pub fine-left : lexicalOf line ≡ Fine → readingOf line ≡ left line firstCursor
   unfolding readingOf left termsOf
   fine-left e = rw e
 
@@ -123,7 +104,7 @@ module _ (line : List ℕ) where
   pub long-left : 1024 < length line → readingOf line ≡ refusal 1 1024
   long-left h = flawed-left 1 1024 (long-line line h)
 
-  pub blank-left : isNil (termsOf line) ≡ true → left line start ≡ read []
+  pub blank-left : isNil (termsOf line) ≡ true → left line firstCursor ≡ read []
   unfolding left termsOf walkTerms
   blank-left e = go (termsOf line) refl
     where
@@ -146,13 +127,13 @@ some-part n s (t ∷ ts) e P f g = go (decide s (t .text))
     go (takes i) = put (partOf t i) (walkTerms n (next s i) ts)
 
 module _ (line : List ℕ) (e : isNil (termsOf line) ≡ false) where
-  pub total-needed : totalFrom 0 (left line start) ≡ neededIn (left line start)
+  pub total-needed : totalFrom 0 (left line firstCursor) ≡ neededIn (left line firstCursor)
   unfolding left termsOf
   total-needed =
       some-part (length line) begin (termsOf line) e (λ r. totalFrom 0 r ≡ neededIn r) (λ k p. refl)
       (λ p ps. ap answer.Wrote (omega arith))
 
-  pub bytes-records : recordsIn (left line start) ≡ bytesIn (left line start)
+  pub bytes-records : recordsIn (left line firstCursor) ≡ bytesIn (left line firstCursor)
   unfolding left termsOf
   bytes-records = some-part (length line) begin (termsOf line) e (λ r. recordsIn r ≡ bytesIn r) (λ k p. refl) (λ p ps. refl)
 

@@ -6,7 +6,7 @@ use mathlib.Core.Bool.{Bool, true, false, not, _&&_}
 use native.Mathlib.Omega.{arith}
 use lib.Dec.{eqb}
 use Rattle.text.specs.Lists.{walk, allOf}
-use Rattle.text.proofs.Basics.{and-l, and-r, no-case}
+use Rattle.text.proofs.Tests.{and-l, and-r, no-case}
 use Rattle.terms.specs.declared.Mode.{Mode}
 use Rattle.terms.specs.declared.Mode.the-variants.{Out}
 use Rattle.terms.specs.Signs.{after}
@@ -58,12 +58,12 @@ paired-never-3 t p d h = go (line-exactly t 3 p .0 h)
 -- OF EVERY LINE THAT A CAPTURE GIVES
 abbrev pub NeverThree : Given → Type 0
 NeverThree (line t) = (p : ℕ) → readingOf t ≡ refusal 3 p → ⊥
-NeverThree (refused t) = Unit {0}
+NeverThree (refused k p t) = Unit {0}
 
 every-line : (gs : List Given) → Every Sound gs → Every NeverThree gs
 every-line [] s = tt
 every-line (line t ∷ gs) s = ((λ p h. paired-never-3 t p (s .0 .0) h), every-line gs (s .1))
-every-line (refused t ∷ gs) s = (tt, every-line gs (s .1))
+every-line (refused k p t ∷ gs) s = (tt, every-line gs (s .1))
 
 pub joined-never-3 : (c : List ℕ) → Every NeverThree (linesOf c)
 joined-never-3 c = every-line (linesOf c) (sound-lines c)

@@ -2,6 +2,7 @@ pub mod Examples
 pub mod TakenCases
 pub mod Steps
 pub mod Decisions
+pub mod Sizes
 pub mod Folds
 pub mod PartOrder
 pub mod Order

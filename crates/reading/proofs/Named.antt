@@ -6,45 +6,47 @@ use mathlib.Core.Bool.{Bool, true, false, cond}
 use mathlib.Core.Option.{some}
 use native.Mathlib.Omega.{arith}
 use lib.ListN.{length, length-append}
-use lib.Dec.{leb}
+use lib.Dec.{eqb, leb}
 use borrow.Author.Tests.{le-leb, leb-true}
 use Rattle.text.specs.Lists.{allOf, anyOf, upTo, past}
-use Rattle.text.proofs.Basics.{and-l, and-r, and-in, all-mono, no-case}
+use Rattle.text.proofs.Tests.{and-l, and-r, and-in, no-case}
+use Rattle.text.proofs.AllAny.{all-mono}
 use Rattle.terms.specs.Signs.{Sign, bare, raw, raws, isBare}
 use Rattle.terms.specs.Terms.{Term, termsOf}
 use Rattle.words.specs.declared.Kind.{Kind}
 use Rattle.words.specs.declared.Kind.the-variants.{Mere, Keep, Level, Place, Entries}
 use Rattle.words.specs.Words.{kindOf}
-use Rattle.forms.specs.Forms.{starts, Said, alone, equals, matches, Property, property, saidOf, propertyOf, topicOf}
+use Rattle.forms.specs.Forms.{starts, Said, alone, equals, matches, Property, saidOf, propertyOf, topicOf}
 use Rattle.forms.specs.Answers.{operatorOf}
 use Rattle.reading.specs.declared.Phase.{Phase}
 use Rattle.reading.specs.declared.State.{State}
 use Rattle.reading.specs.declared.Span.{Span}
-use Rattle.reading.specs.Command.{Item, verb, option, argument, target, prop}
+use Rattle.reading.specs.Command.{Item, option, prop, shownOf}
 use Rattle.reading.specs.Reading.{begin, takes, decideIn, decide, next, Part, read, partOf, walkTerms, readingOf}
-use Rattle.reading.specs.Records.{span, optionRecord, recordOf}
-use Rattle.reading.specs.Inside.{partsInOrder, valueSpan, optionSpans, spansOf, isWithin, namesItself, isInside, recordFrom}
+use Rattle.reading.specs.Records.{span, optionFields, valueSpan, fieldsOf}
+use Rattle.reading.specs.Inside.{partsInOrder, spansIn, spansOf, isWithin, namesItself, isInside}
 use Rattle.reading.proofs.TakenCases.{taken-case}
 use Rattle.reading.proofs.PartOrder.{ended-nil, walk-taken, read-walk, parts-in-order, bounds, order-ends}
-use Rattle.terms.proofs.TermLaws.{raws-append, bare-is, bare-split}
+use Rattle.terms.proofs.SignBytes.{raws-append}
+use Rattle.terms.proofs.Bares.{bare-is, bare-split}
 use Rattle.forms.proofs.FormCases.{said-from, topic-from, property-from}
 
 -- ---- a property's name and operator have as many bytes as they say
 
-split-size : (k : ℕ) (t : List Sign) → anyOf (isBare k) t ≡ true → length (raws t) ≡ length (raws (upTo (isBare k) t)) + 1 + length (raws (past (isBare k) t))
+split-size : (k : ℕ) → eqb 34 k ≡ false → (t : List Sign) → anyOf (isBare k) t ≡ true → length (raws t) ≡ length (raws (upTo (isBare k) t)) + 1 + length (raws (past (isBare k) t))
 unfolding raws
-split-size k t e =
-    let s = ap (λ (z : List Sign). length (raws z)) (bare-split k t e) ∙ ap length (raws-append (upTo (isBare k) t) (bare k ∷ past (isBare k) t)) in
+split-size k n t e =
+    let s = ap (λ (z : List Sign). length (raws z)) (bare-split k n t e) ∙ ap length (raws-append (upTo (isBare k) t) (bare k ∷ past (isBare k) t)) in
     let l = length-append (raws (upTo (isBare k) t)) (k ∷ raws (past (isBare k) t)) in
     omega arith
 
-starts-some : (k : ℕ) (t : List Sign) → starts k t ≡ true → 0 < length (raws t)
+starts-some : (k : ℕ) → eqb 34 k ≡ false → (t : List Sign) → starts k t ≡ true → 0 < length (raws t)
 unfolding raws
-starts-some k [] e = no-case (sym e)
-starts-some k (x ∷ t) e = let l = ap (λ (y : Sign). length (raw y ++ raws t)) (bare-is k x e) in omega arith
+starts-some k n [] e = no-case (sym e)
+starts-some k n (x ∷ t) e = let l = ap (λ (y : Sign). length (raw y ++ raws t)) (bare-is k n x e) in omega arith
 
 said-size : (t : List Sign) (s : Said) → saidOf t ≡ some s → operatorOf s ≤ 1 + length (raws t)
-said-size t s h = said-from (λ x. operatorOf x ≤ 1 + length (raws t)) t (λ v e k. let n = starts-some 61 t e in omega arith) (λ v e k. omega arith) s h
+said-size t s h = said-from (λ x. operatorOf x ≤ 1 + length (raws t)) t (λ v e k. let n = starts-some 61 refl t e in omega arith) (λ v e k. omega arith) s h
 
 Sized : List Sign → Property → Type 0
 Sized t p = length (p .name) + operatorOf (p .said) ≤ length (raws t)
@@ -57,12 +59,12 @@ property-size : (t : List Sign) (p : Property) → propertyOf t ≡ some p → S
 unfolding Sized
 property-size t p h =
     property-from (λ q. length (q .name) + operatorOf (q .said) ≤ length (raws t)) t (λ x n. omega arith)
-    (λ s x n e. let k = said-size (past (isBare 61) t) s e in let l = split-size 61 t x in omega arith) p h
+    (λ s x n e. let k = said-size (past (isBare 61) t) s e in let l = split-size 61 refl t x in omega arith) p h
 
 -- ---- what a taken part names lies in its term
 
 Fits : List Sign → Item → Type 0
-Fits t i = (a : ℕ) → allOf (isWithin a (a + length (raws t))) (spansOf i a (length (raws t))) ≡ true
+Fits t i = (a : ℕ) → allOf (isWithin a (a + length (raws t))) (spansIn (fieldsOf (shownOf i) a (length (raws t)))) ≡ true
 
 within : (from end a n : ℕ) → from ≤ a → a + n ≤ end → isWithin from end (span a n) ≡ true
 within from end a n h k = simp (le-leb from a h, le-leb (a + n) end k)
@@ -71,7 +73,7 @@ option-fits : (t : List Sign) (k : ℕ) → Fits t (option k)
 unfolding Fits allOf
 option-fits t k a = go (kindOf k)
   where
-    go : (d : Kind) → allOf (isWithin a (a + length (raws t))) (optionSpans d (a + length (raws t))) ≡ true
+    go : (d : Kind) → allOf (isWithin a (a + length (raws t))) (spansIn (optionFields k d (a + length (raws t)))) ≡ true
     go Mere = simp (within a (a + length (raws t)) (a + length (raws t)) 0 (omega arith) (omega arith))
     go Keep = refl
     go Level = refl
@@ -87,7 +89,7 @@ prop-fits t p h a =
     simp (within a (a + length (raws t)) a (length (p .name)) (omega arith) (omega arith), value (p .said) h)
   where
     value : (s : Said) → length (p .name) + operatorOf s ≤ length (raws t)
-        → isWithin a (a + length (raws t)) (valueSpan s (a + length (p .name)) (length (raws t) - length (p .name))) ≡ true
+        → isWithin a (a + length (raws t)) (valueSpan (operatorOf s) (a + length (p .name)) (length (raws t) - length (p .name))) ≡ true
     value alone k = within a (a + length (raws t)) (a + length (p .name) + (length (raws t) - length (p .name))) 0 (omega arith) (omega arith)
     value (equals v) k = within a (a + length (raws t)) (a + length (p .name) + 1) (length (raws t) - length (p .name) - 1) (omega arith) (omega arith)
     value (matches v) k = within a (a + length (raws t)) (a + length (p .name) + 2) (length (raws t) - length (p .name) - 2) (omega arith) (omega arith)
@@ -117,30 +119,6 @@ walk-names n s (t ∷ ts) ps h =
 pub records-name-parts : (line : List ℕ) (ps : List Part) → readingOf line ≡ read ps → allOf namesItself ps ≡ true
 records-name-parts line ps h = walk-names (length line) begin (termsOf line) ps (read-walk line ps h .1)
 
--- ---- these are the positions and lengths that the record is made of
-
-option-made : (k e : ℕ) → optionRecord k (kindOf k) e ≡ recordFrom (option k) (optionSpans (kindOf k) e)
-option-made k e = go (kindOf k)
-  where
-    go : (d : Kind) → optionRecord k d e ≡ recordFrom (option k) (optionSpans d e)
-    go Mere = refl
-    go Keep = refl
-    go Level = refl
-    go Place = refl
-    go Entries = refl
-
-prop-made : (n : List ℕ) (s : Said) (a l : ℕ) → recordOf (prop (property n s)) a l ≡ recordFrom (prop (property n s)) (spansOf (prop (property n s)) a l)
-prop-made n alone a l = refl
-prop-made n (equals v) a l = refl
-prop-made n (matches v) a l = refl
-
-pub record-made : (i : Item) (a n : ℕ) → recordOf i a n ≡ recordFrom i (spansOf i a n)
-record-made (verb k) a n = refl
-record-made (option k) a n = option-made k (a + n)
-record-made (argument k x) a n = refl
-record-made (target x) a n = refl
-record-made (prop p) a n = prop-made (p .name) (p .said) a n
-
 -- ---- THEY LIE INSIDE THE LINE
 
 wider : (from end n : ℕ) → end ≤ n → (s : Span) → isWithin from end s ≡ true → isWithin 0 n s ≡ true
@@ -154,7 +132,7 @@ all-inside from end [] o h = refl
 all-inside from end (p ∷ ps) o h =
     let b = bounds from end p ps o in
     let e = order-ends (p .start + p .len) end ps (b .rest) in
-    let x = all-mono (isWithin (p .start) (p .start + p .len)) (isWithin 0 end) (wider (p .start) (p .start + p .len) end e) (spansOf (p .item) (p .start) (p .len)) (and-l (namesItself p) (allOf namesItself ps) h) in
+    let x = all-mono (isWithin (p .start) (p .start + p .len)) (isWithin 0 end) (wider (p .start) (p .start + p .len) end e) (spansOf p) (and-l (namesItself p) (allOf namesItself ps) h) in
     and-in (isInside end p) (allOf (isInside end) ps) x (all-inside (p .start + p .len) end ps (b .rest) (and-r (namesItself p) (allOf namesItself ps) h))
 
 pub records-inside : (line : List ℕ) (ps : List Part) → readingOf line ≡ read ps → allOf (isInside (length line)) ps ≡ true

@@ -10,7 +10,7 @@ use lib.Dec.{eqb, leb}
 use borrow.Author.Tests.{eqb-true, eq-eqb, not-true}
 use Rattle.text.specs.declared.Verdict.{Verdict}
 use Rattle.text.specs.declared.Verdict.the-variants.{Fine, Flawed}
-use Rattle.text.proofs.Basics.{and-l, and-r, no-case}
+use Rattle.text.proofs.Tests.{and-l, and-r, no-case}
 use Rattle.terms.specs.Signs.{Sign, raws}
 use Rattle.terms.specs.Terms.{Term, termsOf}
 use Rattle.terms.specs.Rows.{lexicalOf}
@@ -23,7 +23,7 @@ use Rattle.reading.specs.declared.Phase.the-variants.{First, Options, Wa
 use Rattle.reading.specs.declared.State.{State}
 use Rattle.reading.specs.Command.{argumentBy, Item, verb, option, argument, target, prop}
 use Rattle.reading.specs.Reading.{begin, Decision, refuses, takes, orNo, notSeen, decideVerb, decideOption, decideArgument, decideTarget, decideProperty, decideAfter, decideIn, decide, next, Part, Reading, refusal, read, adding, ended, partOf, walkTerms, readingOf}
-use Rattle.reading.specs.Order.{isSeen, isWaits, holdsIn, holds, order, isFirstOf, stateAfter, Refused, byLine, byTerm, byEnd}
+use Rattle.reading.specs.Order.{isSeen, isWaits, holdsIn, holds, order, isFirstOf, statePast, Refused, byLine, byTerm, byEnd}
 
 -- ---- the first row of a list that holds
 
@@ -152,9 +152,9 @@ term-exactly s t k = (
 
 -- a walk that was refused: at its first term that was, or at the line's end
 data Stops (n : ℕ) (s : State) (ts : List Term) (k p : ℕ) : Type 0 where
-  term : (before : List Term) (t : Term) (after : List Term) (u : State) → ts ≡ before ++ (t ∷ after) → stateAfter s before ≡ some u → t .start ≡ p
+  term : (before : List Term) (t : Term) (after : List Term) (u : State) → ts ≡ before ++ (t ∷ after) → statePast s before ≡ some u → t .start ≡ p
       → decide u (t .text) ≡ refuses k → Stops n s ts k p
-  over : (u : State) → stateAfter s ts ≡ some u → isWaits (u .phase) ≡ true → k ≡ 9 → p ≡ n → Stops n s ts k p
+  over : (u : State) → statePast s ts ≡ some u → isWaits (u .phase) ≡ true → k ≡ 9 → p ≡ n → Stops n s ts k p
 
 adding-refused : (q : Part) (r : Reading) (k p : ℕ) → adding q r ≡ refusal k p → r ≡ refusal k p
 adding-refused q (refusal j a) k p e = e
@@ -167,7 +167,7 @@ ended-refused (Waits j) n k p e = (refl, cc, cc)
 ended-refused Rest n k p e = let z : _≡_ {A = ℕ} 0 1 = cc in absurd (omega arith)
 
 stops : (n : ℕ) (s : State) (ts : List Term) (k p : ℕ) → walkTerms n s ts ≡ refusal k p → Stops n s ts k p
-unfolding walkTerms stateAfter
+unfolding walkTerms statePast
 stops n s [] k p h = let e = ended-refused (s .phase) n k p h in over s refl (e .0) (e .1) (e .2)
 stops n s (t ∷ ts) k p h = go (decide s (t .text)) refl (λ i. stops n (next s i) ts k p)
   where
@@ -183,19 +183,19 @@ stops n s (t ∷ ts) k p h = go (decide s (t .text)) refl (λ i. stops n (next s
     go (takes i) d ih = onward i d (ih i (adding-refused (partOf t i) (walkTerms n (next s i) ts) k p (rw d at h)))
 
 -- and back
-walk-term : (n : ℕ) (s u : State) (before : List Term) (t : Term) (after : List Term) (k : ℕ) → stateAfter s before ≡ some u → decide u (t .text) ≡ refuses k
+walk-term : (n : ℕ) (s u : State) (before : List Term) (t : Term) (after : List Term) (k : ℕ) → statePast s before ≡ some u → decide u (t .text) ≡ refuses k
     → walkTerms n s (before ++ (t ∷ after)) ≡ refusal k (t .start)
-unfolding walkTerms stateAfter
+unfolding walkTerms statePast
 walk-term n s u [] t after k h d = let z : s ≡ u = Option·some-injective s u h in rw (ap (λ (v : State). decide v (t .text)) z ∙ d)
 walk-term n s u (b ∷ bs) t after k h d = go (decide s (b .text)) refl (λ i q. walk-term n (next s i) u bs t after k q d)
   where
-    go : (e : Decision) → decide s (b .text) ≡ e → ((i : Item) → stateAfter (next s i) bs ≡ some u → walkTerms n (next s i) (bs ++ (t ∷ after)) ≡ refusal k (t .start))
+    go : (e : Decision) → decide s (b .text) ≡ e → ((i : Item) → statePast (next s i) bs ≡ some u → walkTerms n (next s i) (bs ++ (t ∷ after)) ≡ refusal k (t .start))
         → walkTerms n s (b ∷ (bs ++ (t ∷ after))) ≡ refusal k (t .start)
     go (refuses j) e ih = let z : _≡_ {A = ℕ} 0 1 = cc (rw e at h) in absurd (omega arith)
     go (takes i) e ih = rw (e, ih i (rw e at h))
 
-walk-end : (n : ℕ) (s u : State) (ts : List Term) → stateAfter s ts ≡ some u → isWaits (u .phase) ≡ true → walkTerms n s ts ≡ refusal 9 n
-unfolding walkTerms stateAfter
+walk-end : (n : ℕ) (s u : State) (ts : List Term) → statePast s ts ≡ some u → isWaits (u .phase) ≡ true → walkTerms n s ts ≡ refusal 9 n
+unfolding walkTerms statePast
 walk-end n s u [] h w = let z : s ≡ u = Option·some-injective s u h in go (s .phase) (ap (λ (v : State). isWaits (v .phase)) z ∙ w)
   where
     go : (ph : Phase) → isWaits ph ≡ true → ended ph n ≡ refusal 9 n
@@ -205,7 +205,7 @@ walk-end n s u [] h w = let z : s ≡ u = Option·some-injective s u h in go (s 
     go Rest e = no-case (sym e)
 walk-end n s u (t ∷ ts) h w = go (decide s (t .text)) refl (λ i q. walk-end n (next s i) u ts q w)
   where
-    go : (e : Decision) → decide s (t .text) ≡ e → ((i : Item) → stateAfter (next s i) ts ≡ some u → walkTerms n (next s i) ts ≡ refusal 9 n)
+    go : (e : Decision) → decide s (t .text) ≡ e → ((i : Item) → statePast (next s i) ts ≡ some u → walkTerms n (next s i) ts ≡ refusal 9 n)
         → walkTerms n s (t ∷ ts) ≡ refusal 9 n
     go (refuses j) e ih = let z : _≡_ {A = ℕ} 0 1 = cc (rw e at h) in absurd (omega arith)
     go (takes i) e ih = rw (e, ih i (rw e at h))

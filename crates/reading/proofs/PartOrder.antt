@@ -9,11 +9,11 @@ use lib.Dec.{leb, ltb}
 use borrow.Author.Tests.{leb-true, ltb-true}
 use Rattle.text.specs.declared.Verdict.{Verdict}
 use Rattle.text.specs.declared.Verdict.the-variants.{Fine, Flawed}
-use Rattle.text.proofs.Basics.{and-l, and-r}
+use Rattle.text.proofs.Tests.{and-l, and-r}
 use Rattle.terms.specs.Terms.{Term, termsOf}
 use Rattle.terms.specs.Going.{sizeOf, inOrder}
 use Rattle.terms.specs.Rows.{lexicalOf}
-use Rattle.terms.proofs.TermLaws.{in-order}
+use Rattle.terms.proofs.TermList.{in-order}
 use Rattle.reading.specs.declared.Phase.{Phase}
 use Rattle.reading.specs.declared.Phase.the-variants.{First, Options, Waits, Rest}
 use Rattle.reading.specs.declared.State.{State}

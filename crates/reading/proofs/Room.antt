@@ -1,13 +1,13 @@
 -- "A reading takes at most 399 bytes." Assumes nothing.
 use Prim.Native.Nat.{ℕ, zero, suc, _+_, _-_, _*_, _<_, _≤_}
-use mathlib.Core.Path.{_≡_, refl, sym, ap, _∙_}
+use mathlib.Core.Path.{_≡_, refl, ap, _∙_}
 use mathlib.Core.List.{List, [], _∷_}
 use mathlib.Core.Bool.{Bool, true, false}
 use mathlib.Core.Option.{some}
 use native.Mathlib.Omega.{arith}
 use lib.ListN.{length, drop, getD, set, length-set, length-append}
 use Rattle.text.specs.declared.Answer.the-variants.{Wrote}
-use Rattle.text.proofs.Basics.{no-case}
+use Rattle.text.proofs.Tests.{no-case}
 use Rattle.terms.specs.Signs.{Sign, raws}
 use Rattle.terms.specs.Terms.{Term, termsOf}
 use Rattle.words.specs.declared.Kind.{Kind}
@@ -18,12 +18,10 @@ use Rattle.forms.specs.Forms.{Property}
 use Rattle.reading.specs.declared.Phase.{Phase}
 use Rattle.reading.specs.declared.Phase.the-variants.{First, Options, Waits, Rest}
 use Rattle.reading.specs.declared.State.{State}
-use Rattle.reading.specs.Command.{Item, verb, option, argument, target, prop}
+use Rattle.reading.specs.Command.{Item, verb, option, argument, target, prop, shownOf}
 use Rattle.reading.specs.Reading.{state, begin, takes, decideIn, decide, phaseAfter, next, Part, Reading, refusal, read, partOf, walkTerms, readingOf}
-use Rattle.reading.specs.Records.{optionRecord, recordOf, recordsOf, readRecords}
-use Rattle.reading.specs.Cursor.{shownOf}
+use Rattle.reading.specs.Records.{bytesOf, optionFields, recordOf, recordsOf, readRecords}
 use Rattle.reading.specs.Shown.{neededIn}
-use Rattle.reading.proofs.Steps.{record-shown, record-size}
 use Rattle.reading.proofs.PartOrder.{ended-nil, walk-taken, read-walk}
 use Rattle.reading.proofs.TakenCases.{taken-case}
 
@@ -60,7 +58,7 @@ room p seen count = phaseRoom p + 6 * free (drop 1 seen) + 10 * (32 - count)
 roomOf : State → ℕ
 roomOf s = room (s .phase) (s .seen) (s .count)
 
-option-room : (k e : ℕ) (d : Kind) → length (optionRecord k d e) + phaseRoom (phaseAfter k d) ≡ 11
+option-room : (k e : ℕ) (d : Kind) → length (bytesOf (optionFields k d e)) + phaseRoom (phaseAfter k d) ≡ 11
 unfolding phaseRoom
 option-room k e Mere = refl
 option-room k e Keep = refl
@@ -70,10 +68,7 @@ option-room k e Entries = refl
 
 -- one part
 Room : Phase → Bool → List Bool → ℕ → Item → Type 0
-Room p help seen count i = (a n : ℕ) → length (recordOf i a n) + roomOf (next (state p help seen count) i) ≤ room p seen count
-
-prop-size : (q : Property) (a n : ℕ) → length (recordOf (prop q) a n) ≡ 10
-prop-size q a n = ap length (sym (record-shown (prop q) a n)) ∙ record-size (shownOf (prop q)) a n
+Room p help seen count i = (a n : ℕ) → length (recordOf (shownOf i) a n) + roomOf (next (state p help seen count) i) ≤ room p seen count
 
 option-part : (help : Bool) (seen : List Bool) (count k : ℕ) (s : List ℕ) → optionOf s ≡ some k → getD seen k false ≡ false → length seen ≡ 13 → Room Options help seen count (option k)
 unfolding Room roomOf room
@@ -87,7 +82,7 @@ option-part help seen count k s p q l a n =
 
 prop-room : (p : Phase) (help : Bool) (seen : List Bool) (count : ℕ) (q : Property) → count < 32 → Room p help seen count (prop q)
 unfolding Room roomOf room phaseRoom
-prop-room p help seen count q c a n = let v = prop-size q a n in omega arith
+prop-room p help seen count q c a n = omega arith
 
 one-room : (p : Phase) (help : Bool) (seen : List Bool) (count : ℕ) (t : List Sign) (i : Item) → decideIn p help seen count t ≡ takes i → length seen ≡ 13 → Room p help seen count i
 unfolding Room roomOf room phaseRoom
@@ -110,13 +105,13 @@ walk-room n s (t ∷ ts) ps h l =
     let r = walk-room n (next s (k .item)) ts (k .rest) (k .walked) (next-length s (k .item) ∙ l) in
     put (k .item) (k .rest) (k .decided) (k .parts) r
   where
-    one : (i : Item) → decide s (t .text) ≡ takes i → length (recordOf i (t .start) (length (raws (t .text)))) + roomOf (next s i) ≤ roomOf s
+    one : (i : Item) → decide s (t .text) ≡ takes i → length (recordOf (shownOf i) (t .start) (length (raws (t .text)))) + roomOf (next s i) ≤ roomOf s
     one i d = unfold decide Room roomOf in one-room (s .phase) (s .help) (s .seen) (s .count) (t .text) i d l (t .start) (length (raws (t .text)))
 
     put : (i : Item) (qs : List Part) → decide s (t .text) ≡ takes i → ps ≡ partOf t i ∷ qs → length (recordsOf qs) ≤ roomOf (next s i) → length (recordsOf ps) ≤ roomOf s
     put i qs d e r =
         let o = one i d in
-        let m = length-append (recordOf i (t .start) (length (raws (t .text)))) (recordsOf qs) in
+        let m = length-append (recordOf (shownOf i) (t .start) (length (raws (t .text)))) (recordsOf qs) in
         rw e (omega arith)
 
 begin-room : roomOf begin ≡ 399

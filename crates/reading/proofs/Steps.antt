@@ -1,46 +1,39 @@
 -- A reading taken one step at a time: what each step of a cursor says of what is left of a line. Every loop over `Cursor::next` cites these.
 -- Assumes nothing.
-use Prim.Native.Nat.{ℕ, suc, _+_, _-_, _<_, _≤_}
+use Prim.Native.Nat.{ℕ, _+_, _-_, _<_, _≤_}
 use mathlib.Core.Path.{_≡_, refl, sym, ap, _∙_}
-use mathlib.Core.List.{List, [], _∷_, _++_}
+use mathlib.Core.List.{List, [], _∷_}
 use mathlib.Core.Bool.{Bool, true, false, cond, _&&_}
-use mathlib.Core.Option.{Option, some}
+use mathlib.Core.Option.{some}
 use native.Mathlib.Omega.{arith}
 use lib.ListN.{length, take, drop}
-use lib.Dec.{eqb, leb}
+use lib.Dec.{leb}
 use borrow.Author.Tests.{leb-true}
-use Rattle.text.specs.Lists.{given, allOf}
-use Rattle.text.specs.Room.{two}
+use Rattle.text.specs.Lists.{allOf}
 use Rattle.text.specs.Bytes.{isLetter, isWord}
 use Rattle.text.proofs.Slices.{part-from}
-use Rattle.text.proofs.Basics.{and-r, Given}
+use Rattle.text.proofs.Tests.{and-r}
 use Rattle.terms.specs.declared.Mode.the-variants.{Out}
 use Rattle.terms.specs.declared.Found.{Found}
 use Rattle.terms.specs.declared.Found.the-variants as found
 use Rattle.terms.specs.Signs.{Sign, signs}
 use Rattle.terms.specs.Terms.{Term}
 use Rattle.terms.specs.Scan.{termAt}
-use Rattle.terms.proofs.TermLaws.{terms-some, terms-none, term-within, term-size}
-use Rattle.words.specs.declared.Kind.{Kind}
-use Rattle.words.specs.declared.Kind.the-variants.{Mere, Keep, Level, Place, Entries}
-use Rattle.words.specs.Words.{kindOf}
-use Rattle.forms.specs.Forms.{isName, Said, alone, equals, matches, Property, propertyOf, topicOf}
-use Rattle.forms.specs.Answers.{operatorOf}
+use Rattle.terms.proofs.NextTerm.{terms-some, terms-none, term-within, term-size}
+use Rattle.forms.specs.Forms.{isName, Property, propertyOf, topicOf}
 use Rattle.reading.specs.declared.Phase.{Phase}
 use Rattle.reading.specs.declared.Phase.the-variants.{First, Options, Waits, Rest}
 use Rattle.reading.specs.declared.State.{State}
 use Rattle.reading.specs.declared.Shown.{Shown}
-use Rattle.reading.specs.declared.Shown.the-variants as shown
 use Rattle.reading.specs.declared.Decided.{Decided}
 use Rattle.reading.specs.declared.Cursor.{Cursor}
-use Rattle.reading.specs.declared.Given as declared
-use Rattle.reading.specs.declared.Given.the-variants as gives
+use Rattle.reading.specs.declared.Offer as declared
+use Rattle.reading.specs.declared.Offer.the-variants as offer
 use Rattle.reading.specs.declared.Step.{Step}
-use Rattle.reading.specs.Command.{Item, verb, option, argument, target, prop}
+use Rattle.reading.specs.Command.{Item, verb, option, argument, target, prop, shownOf}
 use Rattle.reading.specs.Reading.{state, Decision, refuses, takes, decideIn, decide, next, Part, refusal, read, adding, ended, going, walkTerms}
-use Rattle.reading.specs.Records.{optionRecord, valueRecord, recordOf}
-use Rattle.reading.specs.Cursor.{shownOf, decidedOf, nextShown, cursor, step, givenOn, givenEnd, givenAt, givenOf, cursorAfter, stepOf, left, start}
-use Rattle.reading.specs.Shown.{valueShown, recordShown, optionSize, recordSize, nameSize, counted}
+use Rattle.reading.specs.Cursor.{decidedOf, nextShown, cursor, step, offerOn, offerEnd, offerAt, offerOf, cursorAfter, stepOf, left}
+use Rattle.reading.specs.Shown.{nameSize, counted}
 use Rattle.reading.proofs.TakenCases.{taken-case}
 use Rattle.forms.proofs.FormCases.{topic-from, property-from}
 
@@ -53,44 +46,6 @@ next-shown s (option n) = refl
 next-shown s (argument n a) = refl
 next-shown s (target t) = refl
 next-shown s (prop p) = refl
-
-value-shown : (s : Said) (a n : ℕ) → valueShown (operatorOf s) a n ≡ valueRecord s a n
-value-shown alone a n = refl
-value-shown (equals v) a n = refl
-value-shown (matches v) a n = refl
-
--- and so does its record
-pub record-shown : (i : Item) (a n : ℕ) → recordShown (shownOf i) a n ≡ recordOf i a n
-record-shown (verb k) a n = refl
-record-shown (option k) a n = refl
-record-shown (argument k x) a n = refl
-record-shown (target x) a n = refl
-record-shown (prop p) a n = rw (value-shown (p .said) (a + length (p .name)) (n - length (p .name)))
-
-option-size : (k e : ℕ) → length (optionRecord k (kindOf k) e) ≡ optionSize (kindOf k)
-option-size k e = go (kindOf k)
-  where
-    go : (d : Kind) → length (optionRecord k d e) ≡ optionSize d
-    go Mere = refl
-    go Keep = refl
-    go Level = refl
-    go Place = refl
-    go Entries = refl
-
-value-size : (o a n : ℕ) → length (valueShown o a n) ≡ 5
-value-size o a n = go (eqb o 0) (eqb o 1)
-  where
-    go : (x y : Bool) → length (cond x (0 ∷ (two (a + n) ++ two 0)) (cond y (1 ∷ (two (a + 1) ++ two (n - 1))) (2 ∷ (two (a + 2) ++ two (n - 2))))) ≡ 5
-    go true y = refl
-    go false true = refl
-    go false false = refl
-
-pub record-size : (x : Shown) (a n : ℕ) → length (recordShown x a n) ≡ recordSize x
-record-size (shown.Verb k) a n = refl
-record-size (shown.Option k) a n = option-size k (a + n)
-record-size (shown.Argument k) a n = refl
-record-size shown.Target a n = refl
-record-size (shown.Property m o) a n = ap (λ (k : ℕ). suc (suc (suc (suc (suc k))))) (value-size o (a + m) (n - m))
 
 -- ---- a property that was taken: its name is a name, and there was room for one more
 
@@ -169,34 +124,34 @@ pub record Stepped (line : List ℕ) (c : Cursor) (x : Shown) (a n : ℕ) (after
   pub room : counted x ≡ 1 → c .state .count < 32
 
 -- what was given, by the term that was found and the decision on it
-data How (line : List ℕ) (c : Cursor) (g : declared.Given) : Type 0 where
+data How (line : List ℕ) (c : Cursor) (g : declared.Offer) : Type 0 where
   part : (i : Item) (a n : ℕ) → found.Term a n ≡ termAt line (c .at) → decide (c .state) (signs Out (take n (drop a line))) ≡ takes i
-      → g ≡ gives.Part (shownOf i) a n → How line c g
-  no : (k a : ℕ) → left line c ≡ refusal k a → g ≡ gives.Refused k a → How line c g
-  over : left line c ≡ read [] → g ≡ gives.End → How line c g
+      → g ≡ offer.Part (shownOf i) a n → How line c g
+  no : (k a : ℕ) → left line c ≡ refusal k a → g ≡ offer.Refused k a → How line c g
+  over : left line c ≡ read [] → g ≡ offer.End → How line c g
 
-how : (line : List ℕ) (c : Cursor) (g : declared.Given) → g ≡ givenOf line (c .at) (c .state) → How line c g
-unfolding givenOf
+how : (line : List ℕ) (c : Cursor) (g : declared.Offer) → g ≡ offerOf line (c .at) (c .state) → How line c g
+unfolding offerOf
 how line c g is = go (termAt line (c .at)) refl
   where
-    over-in : (p : Phase) → left line c ≡ ended p (length line) → g ≡ givenEnd (length line) p → How line c g
+    over-in : (p : Phase) → left line c ≡ ended p (length line) → g ≡ offerEnd (length line) p → How line c g
     over-in First l h = over l h
     over-in Options l h = over l h
     over-in (Waits k) l h = no 9 (length line) l h
     over-in Rest l h = over l h
 
     by : (a n : ℕ) (d : Decision) → found.Term a n ≡ termAt line (c .at) → decide (c .state) (signs Out (take n (drop a line))) ≡ d
-        → g ≡ givenOn a n (decidedOf d) → How line c g
+        → g ≡ offerOn a n (decidedOf d) → How line c g
     by a n (refuses k) e q h = no k a (left-refused line c a n k e q) h
     by a n (takes i) e q h = part i a n e q h
 
     go : (f : Found) → termAt line (c .at) ≡ f → How line c g
-    go found.None e = over-in (c .state .phase) (left-none line c (sym e)) (is ∙ ap (givenAt line (c .state)) e)
-    go (found.Term a n) e = by a n (decide (c .state) (signs Out (take n (drop a line)))) (sym e) refl (is ∙ ap (givenAt line (c .state)) e)
+    go found.None e = over-in (c .state .phase) (left-none line c (sym e)) (is ∙ ap (offerAt line (c .state)) e)
+    go (found.Term a n) e = by a n (decide (c .state) (signs Out (take n (drop a line)))) (sym e) refl (is ∙ ap (offerAt line (c .state)) e)
 
-module _ (line : List ℕ) (c : Cursor) (g : declared.Given) (is : g ≡ givenOf line (c .at) (c .state)) where
-  pub given-part : (x : Shown) (a n : ℕ) → g ≡ gives.Part x a n → Stepped line c x a n (cursor (a + n) (nextShown (c .state) x))
-  given-part x a n q = go (how line c g is)
+module _ (line : List ℕ) (c : Cursor) (g : declared.Offer) (is : g ≡ offerOf line (c .at) (c .state)) where
+  pub offer-part : (x : Shown) (a n : ℕ) → g ≡ offer.Part x a n → Stepped line c x a n (cursor (a + n) (nextShown (c .state) x))
+  offer-part x a n q = go (how line c g is)
     where
       took-so : (i : Item) → shownOf i ≡ x → found.Term a n ≡ termAt line (c .at) → decide (c .state) (signs Out (take n (drop a line))) ≡ takes i
           → Stepped line c x a n (cursor (a + n) (nextShown (c .state) x))
@@ -226,16 +181,16 @@ module _ (line : List ℕ) (c : Cursor) (g : declared.Given) (is : g ≡ givenOf
       go (no k b l h) = let z = sym h ∙ q in let y : _≡_ {A = ℕ} 0 1 = cc in absurd (omega arith)
       go (over l h) = let z = sym h ∙ q in let y : _≡_ {A = ℕ} 0 1 = cc in absurd (omega arith)
 
-  pub given-refused : (k a : ℕ) → g ≡ gives.Refused k a → left line c ≡ refusal k a
-  given-refused k a q = go (how line c g is)
+  pub offer-refused : (k a : ℕ) → g ≡ offer.Refused k a → left line c ≡ refusal k a
+  offer-refused k a q = go (how line c g is)
     where
       go : How line c g → left line c ≡ refusal k a
       go (part i b m f d h) = let z = sym h ∙ q in let y : _≡_ {A = ℕ} 0 1 = cc in absurd (omega arith)
       go (no j b l h) = let z = sym h ∙ q in let y : refusal j b ≡ refusal k a = cc in l ∙ y
       go (over l h) = let z = sym h ∙ q in let y : _≡_ {A = ℕ} 0 1 = cc in absurd (omega arith)
 
-  pub given-end : g ≡ gives.End → left line c ≡ read []
-  given-end q = go (how line c g is)
+  pub offer-end : g ≡ offer.End → left line c ≡ read []
+  offer-end q = go (how line c g is)
     where
       go : How line c g → left line c ≡ read []
       go (part i b m f d h) = let z = sym h ∙ q in let y : _≡_ {A = ℕ} 0 1 = cc in absurd (omega arith)
@@ -244,39 +199,39 @@ module _ (line : List ℕ) (c : Cursor) (g : declared.Given) (is : g ≡ givenOf
 
 -- the same of a whole step
 module _ (line : List ℕ) (c : Cursor) (s : Step) (is : s ≡ stepOf line c) where
-  step-given : s .given ≡ givenOf line (c .at) (c .state)
+  step-offer : s .offer ≡ offerOf line (c .at) (c .state)
   unfolding stepOf
-  step-given = ap (λ (t : Step). t .given) is
+  step-offer = ap (λ (t : Step). t .offer) is
 
-  step-next : s .next ≡ cursorAfter c (s .given)
+  step-next : s .next ≡ cursorAfter c (s .offer)
   unfolding stepOf
-  step-next = ap (λ (t : Step). t .next) is ∙ ap (cursorAfter c) (sym step-given)
+  step-next = ap (λ (t : Step). t .next) is ∙ ap (cursorAfter c) (sym step-offer)
 
-  pub step-part : (x : Shown) (a n : ℕ) → s .given ≡ gives.Part x a n → Stepped line c x a n (s .next)
-  step-part x a n q = let e = step-next ∙ ap (cursorAfter c) q in rw e (given-part line c (s .given) step-given x a n q)
+  pub step-part : (x : Shown) (a n : ℕ) → s .offer ≡ offer.Part x a n → Stepped line c x a n (s .next)
+  step-part x a n q = let e = step-next ∙ ap (cursorAfter c) q in rw e (offer-part line c (s .offer) step-offer x a n q)
 
-  pub step-refused : (k a : ℕ) → s .given ≡ gives.Refused k a → left line c ≡ refusal k a
-  step-refused = given-refused line c (s .given) step-given
+  pub step-refused : (k a : ℕ) → s .offer ≡ offer.Refused k a → left line c ≡ refusal k a
+  step-refused = offer-refused line c (s .offer) step-offer
 
-  pub step-end : s .given ≡ gives.End → left line c ≡ read []
-  step-end = given-end line c (s .given) step-given
+  pub step-end : s .offer ≡ offer.End → left line c ≡ read []
+  step-end = offer-end line c (s .offer) step-offer
 
 -- ---- what is given, as the code finds it
 
 -- without a term
-pub none-given : (line : List ℕ) (a : ℕ) (s : State) → found.None ≡ termAt line a → givenEnd (length line) (s .phase) ≡ givenOf line a s
-unfolding givenOf
-none-given line a s e = ap (givenAt line s) e
+pub none-given : (line : List ℕ) (a : ℕ) (s : State) → found.None ≡ termAt line a → offerEnd (length line) (s .phase) ≡ offerOf line a s
+unfolding offerOf
+none-given line a s e = ap (offerAt line s) e
 
 -- with one, by the decision on it; the term begins the part of the line that begins at b
 pub term-given : (line : List ℕ) (a : ℕ) (s : State) (b n : ℕ) (d : Decided) → found.Term b n ≡ termAt line a
     → d ≡ decidedOf (decideIn (s .phase) (s .help) (s .seen) (s .count) (signs Out (take n (take (length line - b) (drop b line)))))
-    → givenOn b n d ≡ givenOf line a s
-unfolding givenOf decide
+    → offerOn b n d ≡ offerOf line a s
+unfolding offerOf decide
 term-given line a s b n d e h =
-    ap (givenOn b n) (h ∙ ap (λ (t : List ℕ). decidedOf (decide s (signs Out (take n t)))) (part-from line b)) ∙ ap (givenAt line s) e
+    ap (offerOn b n) (h ∙ ap (λ (t : List ℕ). decidedOf (decide s (signs Out (take n t)))) (part-from line b)) ∙ ap (offerAt line s) e
 
 -- a step by what is given
-pub step-of : (line : List ℕ) (c : Cursor) (g : declared.Given) → g ≡ givenOf line (c .at) (c .state) → step g (cursorAfter c g) ≡ stepOf line c
+pub step-of : (line : List ℕ) (c : Cursor) (g : declared.Offer) → g ≡ offerOf line (c .at) (c .state) → step g (cursorAfter c g) ≡ stepOf line c
 unfolding stepOf
-step-of line c g is = ap (λ (h : declared.Given). step h (cursorAfter c h)) is
+step-of line c g is = ap (λ (h : declared.Offer). step h (cursorAfter c h)) is

@@ -11,7 +11,7 @@ use Rattle.text.specs.declared.Verdict.{Verdict}
 use Rattle.text.specs.declared.Verdict.the-variants.{Fine, Flawed}
 use Rattle.text.specs.Bytes.{printable}
 use Rattle.text.specs.Lists.{runLen}
-use Rattle.text.proofs.Basics.{and-l, and-r}
+use Rattle.text.proofs.Tests.{and-l, and-r}
 use Rattle.text.proofs.Scans.{run-within}
 use Rattle.terms.specs.declared.Mode.{Mode}
 use Rattle.terms.specs.declared.Mode.the-variants.{Out, OutGrave, In, InGrave}
@@ -19,7 +19,7 @@ use Rattle.terms.specs.Signs.{after}
 use Rattle.terms.specs.Terms.{Term, termsOf}
 use Rattle.terms.specs.Going.{sizeOf, inOrder}
 use Rattle.terms.specs.Rows.{orElse, longFlaw, oddFlaw, endMode, opens, openedAt, endFlaw, openFlaw, manyFrom, manyFlaw, lexicalOf}
-use Rattle.terms.proofs.TermLaws.{in-order}
+use Rattle.terms.proofs.TermList.{in-order}
 use Rattle.reading.specs.Reading.{readingOf, refusal}
 use Rattle.reading.specs.Order.{Refused, byLine, byTerm, byEnd}
 use Rattle.reading.proofs.Order.{line-exactly}

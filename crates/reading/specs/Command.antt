@@ -3,24 +3,28 @@ use Prim.Native.Nat.{ℕ}
 use mathlib.Core.List.{List}
 use mathlib.Core.Bool.{cond}
 use mathlib.Core.Option.{Option, none, some}
+use lib.ListN.{length}
 use Rattle.text.specs.Lists.{given}
 use Rattle.terms.specs.Signs.{Sign, raws, stands}
 use Rattle.words.specs.declared.Kind.{Kind}
 use Rattle.words.specs.declared.Kind.the-variants.{Mere, Keep, Level, Place, Entries}
 use Rattle.forms.specs.Forms.{Entry, Property, isKeep, isLevel, isPlace, entriesOf}
 use Rattle.forms.specs.Targets.{Target}
+use Rattle.forms.specs.Answers.{operatorOf}
+use Rattle.reading.specs.declared.Shown.{Shown}
+use Rattle.reading.specs.declared.Shown.the-variants as shown
 
 -- an option's argument: a number is told by its digits, which have no leading zero, and `all` by itself; a source or destination by the bytes that
 -- it stands for; display and output by their items
 pub data Argument : Type 0 where
-  number : List ℕ → Argument
+  numeral : List ℕ → Argument
   text : List ℕ → Argument
   items : List Entry → Argument
 
 abbrev pub argumentBy : Kind → List Sign → Option Argument
 argumentBy Mere t = none
-argumentBy Keep t = cond (isKeep (raws t)) (some (number (raws t))) none
-argumentBy Level t = cond (isLevel (raws t)) (some (number (raws t))) none
+argumentBy Keep t = cond (isKeep (raws t)) (some (numeral (raws t))) none
+argumentBy Level t = cond (isLevel (raws t)) (some (numeral (raws t))) none
 argumentBy Place t = cond (isPlace t) (some (text (stands t))) none
 argumentBy Entries t = given (entriesOf t) (λ es. some (items es))
 
@@ -31,3 +35,11 @@ pub data Item : Type 0 where
   argument : ℕ → Argument → Item
   target : Target → Item
   prop : Property → Item
+
+-- a part by its numbers, which is all that its record and the code tell of it
+abbrev pub shownOf : Item → Shown
+shownOf (verb n) = shown.Verb n
+shownOf (option n) = shown.Option n
+shownOf (argument n a) = shown.Argument n
+shownOf (target t) = shown.Target
+shownOf (prop p) = shown.Property (length (p .name)) (operatorOf (p .said))

@@ -142,14 +142,14 @@ abbrev pub stateOn : Decision → (Item → Option State) → Option State
 stateOn (refuses k) f = none
 stateOn (takes i) f = f i
 
-unfoldable pub stateAfter : State → List Term → Option State
-stateAfter s [] = some s
-stateAfter s (t ∷ ts) = stateOn (decide s (t .text)) (λ i. stateAfter (next s i) ts)
+unfoldable pub statePast : State → List Term → Option State
+statePast s [] = some s
+statePast s (t ∷ ts) = stateOn (decide s (t .text)) (λ i. statePast (next s i) ts)
 
 -- rows 1 to 5 give it; or none of them holds, all terms before the one at p are taken, and k is the first row that holds there; or all terms are
 -- taken, an option still waits for its argument, and it is 9 at the line's length
 pub data Refused (line : List ℕ) (k p : ℕ) : Type 0 where
   byLine : lexicalOf line ≡ Flawed k p → Refused line k p
   byTerm : (before : List Term) (t : Term) (after : List Term) (s : State) → lexicalOf line ≡ Fine → termsOf line ≡ before ++ (t ∷ after)
-      → stateAfter begin before ≡ some s → t .start ≡ p → isFirstOf (holds s (t .text)) order k ≡ true → Refused line k p
-  byEnd : (s : State) → lexicalOf line ≡ Fine → stateAfter begin (termsOf line) ≡ some s → isWaits (s .phase) ≡ true → k ≡ 9 → p ≡ length line → Refused line k p
+      → statePast begin before ≡ some s → t .start ≡ p → isFirstOf (holds s (t .text)) order k ≡ true → Refused line k p
+  byEnd : (s : State) → lexicalOf line ≡ Fine → statePast begin (termsOf line) ≡ some s → isWaits (s .phase) ≡ true → k ≡ 9 → p ≡ length line → Refused line k p

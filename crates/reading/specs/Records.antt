@@ -1,45 +1,66 @@
 -- Records of a reading, and what a read into lent room answers.
 use Prim.Native.Nat.{ℕ, _+_, _-_}
 use mathlib.Core.List.{List, [], _∷_, _++_}
-use lib.ListN.{length, take, drop}
+use mathlib.Core.Bool.{cond}
+use lib.ListN.{take, drop}
+use lib.Dec.{eqb}
 use Rattle.text.specs.declared.Answer.{Answer}
 use Rattle.text.specs.declared.Answer.the-variants.{Refused}
-use Rattle.text.specs.Room.{two, fitted, filled}
+use Rattle.text.specs.Room.{highLow, fitted, filled}
 use Rattle.words.specs.declared.Kind.{Kind}
 use Rattle.words.specs.declared.Kind.the-variants.{Mere, Keep, Level, Place, Entries}
 use Rattle.words.specs.Words.{kindOf}
-use Rattle.forms.specs.Forms.{Said, alone, equals, matches}
 use Rattle.reading.specs.declared.Span.{Span}
-use Rattle.reading.specs.Command.{Item, verb, option, argument, target, prop}
+use Rattle.reading.specs.declared.Shown.{Shown}
+use Rattle.reading.specs.declared.Shown.the-variants as shown
+use Rattle.reading.specs.Command.{Item, verb, option, argument, target, prop, shownOf}
 use Rattle.reading.specs.Reading.{Part, Reading, refusal, read, readingOf}
 
--- An absent argument or value has length 0 and the position after its term; a given argument's record is written at the argument.
-abbrev pub optionRecord : ℕ → Kind → ℕ → List ℕ
-optionRecord n Mere e = 2 ∷ n ∷ (two e ++ two 0)
-optionRecord n Keep e = []
-optionRecord n Level e = []
-optionRecord n Place e = []
-optionRecord n Entries e = []
+abbrev pub span : ℕ → ℕ → Span
+span a n = record { at = a; len = n }
 
--- the operator, then the value's position and length, in what stands after a name: n bytes from a on
-abbrev pub valueRecord : Said → ℕ → ℕ → List ℕ
-valueRecord alone a n = 0 ∷ (two (a + n) ++ two 0)
-valueRecord (equals v) a n = 1 ∷ (two (a + 1) ++ two (n - 1))
-valueRecord (matches v) a n = 2 ∷ (two (a + 2) ++ two (n - 2))
+-- a field of a record: a number of one byte, or a part of the line by its position and length, 2 bytes each, high first
+pub data Field : Type 0 where
+  byte : ℕ → Field
+  part : Span → Field
+
+abbrev pub fieldBytes : Field → List ℕ
+fieldBytes (byte b) = b ∷ []
+fieldBytes (part s) = highLow (s .at) ++ highLow (s .len)
+
+abbrev pub bytesOf : List Field → List ℕ
+bytesOf [] = []
+bytesOf (f ∷ fs) = fieldBytes f ++ bytesOf fs
+
+-- An absent argument has length 0 and the position after its term, here e; a given argument's record is written at the argument.
+abbrev pub optionFields : ℕ → Kind → ℕ → List Field
+optionFields n Mere e = byte 2 ∷ byte n ∷ part (span e 0) ∷ []
+optionFields n Keep e = []
+optionFields n Level e = []
+optionFields n Place e = []
+optionFields n Entries e = []
+
+-- the value in what stands after a name, n bytes from a on: after its operator (0 none, 1 `=`, 2 `==`), which has as many bytes as its number says;
+-- an absent one has length 0 and the position after its term
+abbrev pub valueSpan : ℕ → ℕ → ℕ → Span
+valueSpan o a n = cond (eqb o 0) (span (a + n) 0) (span (a + o) (n - o))
 
 -- Kind 1 verb: number. 2 option: number, argument position, length. 3 target: position, length. 4 property: name position, length, operator, value
 -- position, length. The part begins at a and has n bytes.
-abbrev pub recordOf : Item → ℕ → ℕ → List ℕ
-recordOf (verb k) a n = 1 ∷ k ∷ []
-recordOf (option k) a n = optionRecord k (kindOf k) (a + n)
-recordOf (argument k x) a n = 2 ∷ k ∷ (two a ++ two n)
-recordOf (target x) a n = 3 ∷ (two a ++ two n)
-recordOf (prop p) a n = 4 ∷ (two a ++ (two (length (p .name)) ++ valueRecord (p .said) (a + length (p .name)) (n - length (p .name))))
+abbrev pub fieldsOf : Shown → ℕ → ℕ → List Field
+fieldsOf (shown.Verb k) a n = byte 1 ∷ byte k ∷ []
+fieldsOf (shown.Option k) a n = optionFields k (kindOf k) (a + n)
+fieldsOf (shown.Argument k) a n = byte 2 ∷ byte k ∷ part (span a n) ∷ []
+fieldsOf shown.Target a n = byte 3 ∷ part (span a n) ∷ []
+fieldsOf (shown.Property m o) a n = byte 4 ∷ part (span a m) ∷ byte o ∷ part (valueSpan o (a + m) (n - m)) ∷ []
+
+abbrev pub recordOf : Shown → ℕ → ℕ → List ℕ
+recordOf x a n = bytesOf (fieldsOf x a n)
 
 -- Records stand in line order.
 unfoldable pub recordsOf : List Part → List ℕ
 recordsOf [] = []
-recordsOf (p ∷ ps) = recordOf (p .item) (p .start) (p .len) ++ recordsOf ps
+recordsOf (p ∷ ps) = recordOf (shownOf (p .item)) (p .start) (p .len) ++ recordsOf ps
 
 -- kinds 1 to 4, or 6, blank
 abbrev pub readRecords : List Part → List ℕ
@@ -57,15 +78,17 @@ roomIn room (read ps) = filled room (readRecords ps)
 
 -- a lister makes 5 and 7 from a refusal or a cut
 abbrev pub refusalRecord : ℕ → ℕ → List ℕ
-refusalRecord n p = 5 ∷ n ∷ two p
+refusalRecord n p = 5 ∷ n ∷ highLow p
 
 abbrev pub cutRecord : List ℕ
 cutRecord = 7 ∷ []
 
--- ---- the target's own part: empty, at 0, where there is none or the line is refused
+-- a line's records, as a lister gives them: its reading's, or its refusal's
+abbrev pub listedIn : Reading → List ℕ
+listedIn (refusal n p) = refusalRecord n p
+listedIn (read ps) = readRecords ps
 
-abbrev pub span : ℕ → ℕ → Span
-span a n = record { at = a; len = n }
+-- ---- the target's own part: empty, at 0, where there is none or the line is refused
 
 abbrev pub targetOr : Item → Span → Span → Span
 targetOr (verb k) here later = later

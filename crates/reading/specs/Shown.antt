@@ -1,17 +1,12 @@
--- What the code goes by: a part by its numbers, its record, and what a reading says of a line without its parts.
-use Prim.Native.Nat.{ℕ, _+_, _-_}
-use mathlib.Core.List.{List, [], _∷_, _++_}
+-- What the code goes by: a part by its numbers, and what a reading says of a line without its parts.
+use Prim.Native.Nat.{ℕ, _+_}
+use mathlib.Core.List.{List, []}
 use mathlib.Core.Bool.{Bool, true, false, cond}
 use lib.ListN.{length}
-use lib.Dec.{eqb}
 use Rattle.text.specs.declared.Answer.{Answer}
 use Rattle.text.specs.declared.Answer.the-variants.{Wrote, Refused}
 use Rattle.text.specs.declared.Verdict.{Verdict}
 use Rattle.text.specs.declared.Verdict.the-variants.{Fine, Flawed}
-use Rattle.text.specs.Room.{two}
-use Rattle.words.specs.declared.Kind.{Kind}
-use Rattle.words.specs.declared.Kind.the-variants.{Mere, Keep, Level, Place, Entries}
-use Rattle.words.specs.Words.{kindOf}
 use Rattle.forms.specs.declared.Shape.{Shape}
 use Rattle.forms.specs.declared.Shape.the-variants as shape
 use Rattle.reading.specs.declared.Shown.{Shown}
@@ -19,7 +14,7 @@ use Rattle.reading.specs.declared.Shown.the-variants as shown
 use Rattle.reading.specs.declared.Decided.{Decided}
 use Rattle.reading.specs.declared.Decided.the-variants.{Takes, Refuses}
 use Rattle.reading.specs.Reading.{Reading, refusal, read}
-use Rattle.reading.specs.Records.{optionRecord, recordsOf, readRecords}
+use Rattle.reading.specs.Records.{recordsOf, readRecords}
 
 -- a reading's refusal, or that it has none
 abbrev pub verdictIn : Reading → Verdict
@@ -40,35 +35,9 @@ byShape shape.No = Refuses 13
 abbrev pub argumentIf : Bool → ℕ → Decided
 argumentIf fits n = cond fits (Takes (shown.Argument n)) (Refuses 10)
 
--- ---- records by what is shown of a part that begins at a and has n bytes. proofs/Steps has it that these are the records of specs/Records.
+-- ---- of a part, by its numbers
 
-abbrev pub valueShown : ℕ → ℕ → ℕ → List ℕ
-valueShown o a n =
-    cond (eqb o 0) (0 ∷ (two (a + n) ++ two 0)) (cond (eqb o 1) (1 ∷ (two (a + 1) ++ two (n - 1))) (2 ∷ (two (a + 2) ++ two (n - 2))))
-
-abbrev pub recordShown : Shown → ℕ → ℕ → List ℕ
-recordShown (shown.Verb k) a n = 1 ∷ k ∷ []
-recordShown (shown.Option k) a n = optionRecord k (kindOf k) (a + n)
-recordShown (shown.Argument k) a n = 2 ∷ k ∷ (two a ++ two n)
-recordShown shown.Target a n = 3 ∷ (two a ++ two n)
-recordShown (shown.Property m o) a n = 4 ∷ (two a ++ (two m ++ valueShown o (a + m) (n - m)))
-
--- how many bytes the record has
-abbrev pub optionSize : Kind → ℕ
-optionSize Mere = 6
-optionSize Keep = 0
-optionSize Level = 0
-optionSize Place = 0
-optionSize Entries = 0
-
-abbrev pub recordSize : Shown → ℕ
-recordSize (shown.Verb k) = 2
-recordSize (shown.Option k) = optionSize (kindOf k)
-recordSize (shown.Argument k) = 6
-recordSize shown.Target = 5
-recordSize (shown.Property m o) = 10
-
--- the name of a property
+-- how many bytes the name of a property has
 abbrev pub nameSize : Shown → ℕ
 nameSize (shown.Verb k) = 0
 nameSize (shown.Option k) = 0

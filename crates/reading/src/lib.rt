@@ -7,21 +7,21 @@ use text::Verdict;
 use words::Kind;
 use words::Known;
 ghost use mathlib.Core.Path.{_≡_};
-ghost use mathlib.Core.List.{[], _∷_, _++_};
+ghost use mathlib.Core.List.{[], _∷_};
 ghost use mathlib.Core.Bool.{true, false};
-ghost use Prim.Native.Nat.{_+_, _-_, _*_, _/_, _%_, _≤_, _<_};
+ghost use Prim.Native.Nat.{_+_, _-_, _/_, _%_, _≤_, _<_};
 ghost use lib.ListN.{length, take, getD, set};
 ghost use lib.Seq.{sets};
 ghost use Rattle.text.specs.Lists.{isNil};
-ghost use Rattle.text.specs.Room.{two, fitted, filled};
+ghost use Rattle.text.specs.Room.{fitted, filled};
 ghost use Rattle.terms.specs.declared.Mode.the-variants.{Out};
 ghost use Rattle.terms.specs.Signs.{signs};
 ghost use Rattle.terms.specs.Terms.{termsOf};
 ghost use Rattle.words.specs.Words.{kindOf};
 ghost use Rattle.reading.specs.Reading.{decideVerb, decideOption, decideArgument, decideTarget, decideProperty, decideAfter, decideIn, phaseAfter, readingOf};
-ghost use Rattle.reading.specs.Records.{optionRecord, answerIn, roomIn, refusalRecord, cutRecord, targetIn, targetPart};
-ghost use Rattle.reading.specs.Cursor.{decidedOf, nextShown, givenEnd, givenOf, stepOf, left, start};
-ghost use Rattle.reading.specs.Shown.{verdictIn, neededIn, byShape, argumentIf, recordShown, optionSize, recordSize, nameSize, counted, recordsIn, totalFrom, bytesIn, isTarget};
+ghost use Rattle.reading.specs.Records.{byte, part, bytesOf, optionFields, recordOf, answerIn, roomIn, refusalRecord, cutRecord, span, targetIn, targetPart};
+ghost use Rattle.reading.specs.Cursor.{decidedOf, nextShown, offerEnd, offerOf, stepOf, left, firstCursor};
+ghost use Rattle.reading.specs.Shown.{verdictIn, neededIn, byShape, argumentIf, nameSize, counted, recordsIn, totalFrom, bytesIn, isTarget};
 
 // What may come next.
 pub enum Phase {
@@ -60,7 +60,7 @@ pub struct Cursor {
 }
 
 // What a step gives.
-pub enum Given {
+pub enum Offer {
     Part {
         item: Shown,
         start: usize,
@@ -74,7 +74,7 @@ pub enum Given {
 }
 
 pub struct Step {
-    pub given: Given,
+    pub offer: Offer,
     pub next: Cursor,
 }
 
@@ -311,35 +311,35 @@ fn after(s: State, i: Shown) -> State
 }
 
 // What the end of a line of n bytes gives: an option that still waits for its argument is refused there.
-fn given_end(phase: Phase, n: usize) -> Given
-    ensures { λ r. ⌜ r ≡ givenEnd n phase ⌝ }
+fn offer_end(phase: Phase, n: usize) -> Offer
+    ensures { λ r. ⌜ r ≡ offerEnd n phase ⌝ }
 {
     match phase {
-        Phase::First => Given::End,
-        Phase::Options => Given::End,
-        Phase::Waits(_) => Given::Refused {
+        Phase::First => Offer::End,
+        Phase::Options => Offer::End,
+        Phase::Waits(_) => Offer::Refused {
             number: 9,
             place: n,
         },
-        Phase::Rest => Given::End,
+        Phase::Rest => Offer::End,
     }
 }
 
 // What the next term from a place on gives, in a state.
-fn given_next(line: &[u8], at: usize, state: State) -> Given
-    ensures { λ r. ⌜ r ≡ givenOf (now (line .entry)) at state ⌝ }
+fn offer_next(line: &[u8], at: usize, state: State) -> Offer
+    ensures { λ r. ⌜ r ≡ offerOf (now (line .entry)) at state ⌝ }
 {
     let phase = state.phase;
     let Found::Term { start, len } = terms::term_at(line, at) else {
-        return given_end(phase, line.len());
+        return offer_end(phase, line.len());
     };
     let help = state.help;
     let seen = state.seen;
     let count = state.count;
     let d = decide_in(&line[start..], len, phase, help, seen, count);
     match d {
-        Decided::Takes(item) => Given::Part { item, start, len },
-        Decided::Refuses(number) => Given::Refused {
+        Decided::Takes(item) => Offer::Part { item, start, len },
+        Decided::Refuses(number) => Offer::Refused {
             number,
             place: start,
         },
@@ -349,7 +349,7 @@ fn given_next(line: &[u8], at: usize, state: State) -> Given
 impl Cursor {
     // Before a line's first term.
     pub fn begin() -> Cursor
-        ensures { λ r. ⌜ r ≡ start ⌝ }
+        ensures { λ r. ⌜ r ≡ firstCursor ⌝ }
     {
         let state = State {
             phase: Phase::First,
@@ -366,24 +366,24 @@ impl Cursor {
     {
         let at = self.at;
         let state = self.state;
-        let g = given_next(line, at, state);
+        let g = offer_next(line, at, state);
         match g {
-            Given::Part { item, start, len } => {
+            Offer::Part { item, start, len } => {
                 let n = Cursor {
                     at: start + len,
                     state: after(state, item),
                 };
-                Step { given: g, next: n }
+                Step { offer: g, next: n }
             }
-            Given::Refused {
+            Offer::Refused {
                 number: _,
                 place: _,
             } => Step {
-                given: g,
+                offer: g,
                 next: self,
             },
-            Given::End => Step {
-                given: g,
+            Offer::End => Step {
+                offer: g,
                 next: self,
             },
         }
@@ -405,26 +405,26 @@ fn low(n: usize) -> u8
     (n % 256) as u8
 }
 
+// Each tells how many bytes the record has.
+
 // An option, or its argument: n bytes from a on.
-fn put_option(out: &mut [u8], at: usize, number: u8, a: usize, n: usize)
+fn put_option(out: &mut [u8], at: usize, number: u8, a: usize, n: usize) -> usize
     requires { ⌜ (a < 65536) × (n < 65536) ⌝ }
-    ensures { λ r. ⌜ now (out .exit) ≡ sets (now (out .entry)) at (2 ∷ number ∷ (two a ++ two n)) ⌝ }
+    ensures { λ r. ⌜ (r ≡ length (recordOf (Shown.Argument number) a n)) × (now (out .exit) ≡ sets (now (out .entry)) at (recordOf (Shown.Argument number) a n)) ⌝ }
 {
     let t = [2, number, high(a), low(a), high(n), low(n)];
     text::copy(out, at, &t);
+    words::record_len(2)
 }
 
-// An option that takes no argument, which would stand at e; another one's record is written at its argument. Tells how many bytes were written.
+// An option that takes no argument, which would stand at e; another one's record is written at its argument.
 fn put_mere(out: &mut [u8], at: usize, number: u8, e: usize) -> usize
     requires { ⌜ e < 65536 ⌝ }
-    ensures { λ r. ⌜ (r ≡ optionSize (kindOf number)) × (now (out .exit) ≡ sets (now (out .entry)) at (optionRecord number (kindOf number) e)) ⌝ }
+    ensures { λ r. ⌜ (r ≡ length (bytesOf (optionFields number (kindOf number) e))) × (now (out .exit) ≡ sets (now (out .entry)) at (bytesOf (optionFields number (kindOf number) e))) ⌝ }
 {
     let k = words::kind_of(number);
     match k {
-        Kind::Mere => {
-            put_option(out, at, number, e, 0);
-            6
-        }
+        Kind::Mere => put_option(out, at, number, e, 0),
         Kind::Keep => 0,
         Kind::Level => 0,
         Kind::Place => 0,
@@ -432,18 +432,27 @@ fn put_mere(out: &mut [u8], at: usize, number: u8, e: usize) -> usize
     }
 }
 
-fn put_target(out: &mut [u8], at: usize, a: usize, n: usize)
+fn put_target(out: &mut [u8], at: usize, a: usize, n: usize) -> usize
     requires { ⌜ (a < 65536) × (n < 65536) ⌝ }
-    ensures { λ r. ⌜ now (out .exit) ≡ sets (now (out .entry)) at (3 ∷ (two a ++ two n)) ⌝ }
+    ensures { λ r. ⌜ (r ≡ length (recordOf Shown.Target a n)) × (now (out .exit) ≡ sets (now (out .entry)) at (recordOf Shown.Target a n)) ⌝ }
 {
     let t = [3, high(a), low(a), high(n), low(n)];
     text::copy(out, at, &t);
+    words::record_len(3)
 }
 
 // A property: its name, m bytes from a on; its operator; its value, n bytes from v on.
-fn put_parts(out: &mut [u8], at: usize, a: usize, m: usize, operator: u8, v: usize, n: usize)
+fn put_parts(
+    out: &mut [u8],
+    at: usize,
+    a: usize,
+    m: usize,
+    operator: u8,
+    v: usize,
+    n: usize,
+) -> usize
     requires { ⌜ (a < 65536) × (m < 65536) × (v < 65536) × (n < 65536) ⌝ }
-    ensures { λ r. ⌜ now (out .exit) ≡ sets (now (out .entry)) at (4 ∷ (two a ++ (two m ++ (operator ∷ (two v ++ two n))))) ⌝ }
+    ensures { λ r. ⌜ (r ≡ length (bytesOf (byte 4 ∷ part (span a m) ∷ byte operator ∷ part (span v n) ∷ []))) × (now (out .exit) ≡ sets (now (out .entry)) at (bytesOf (byte 4 ∷ part (span a m) ∷ byte operator ∷ part (span v n) ∷ []))) ⌝ }
 {
     let t = [
         4,
@@ -458,6 +467,7 @@ fn put_parts(out: &mut [u8], at: usize, a: usize, m: usize, operator: u8, v: usi
         low(n),
     ];
     text::copy(out, at, &t);
+    words::record_len(4)
 }
 
 // a without b, and nothing where b is more.
@@ -470,48 +480,35 @@ fn less(a: usize, b: usize) -> usize
     a - b
 }
 
-// A property of n bytes from a on, by its name's length and its operator.
-fn put_property(out: &mut [u8], at: usize, m: usize, operator: u8, a: usize, n: usize)
+// A property of n bytes from a on, by its name's length and its operator, which has as many bytes as its number says.
+fn put_property(out: &mut [u8], at: usize, m: usize, operator: u8, a: usize, n: usize) -> usize
     requires { ⌜ (a ≤ 1024) × (n ≤ 1024) × (m ≤ 64) ⌝ }
-    ensures { λ r. ⌜ now (out .exit) ≡ sets (now (out .entry)) at (recordShown (Shown.Property m operator) a n) ⌝ }
+    ensures { λ r. ⌜ (r ≡ length (recordOf (Shown.Property m operator) a n)) × (now (out .exit) ≡ sets (now (out .entry)) at (recordOf (Shown.Property m operator) a n)) ⌝ }
 {
     let e = a + m;
     let k = less(n, m);
     if operator == 0 {
-        put_parts(out, at, a, m, 0, e + k, 0);
-        return;
+        return put_parts(out, at, a, m, operator, e + k, 0);
     }
-    if operator == 1 {
-        put_parts(out, at, a, m, 1, e + 1, less(k, 1));
-        return;
-    }
-    put_parts(out, at, a, m, 2, e + 2, less(k, 2));
+    let o = operator as usize;
+    put_parts(out, at, a, m, operator, e + o, less(k, o))
 }
 
-// The record of a part of n bytes from a on; tells how many bytes it has.
+// The record of a part of n bytes from a on.
 fn put_record(out: &mut [u8], at: usize, item: Shown, a: usize, n: usize) -> usize
     requires { ⌜ (a ≤ 1024) × (n ≤ 1024) × (nameSize item ≤ 64) ⌝ }
-    ensures { λ r. ⌜ (r ≡ recordSize item) × (now (out .exit) ≡ sets (now (out .entry)) at (recordShown item a n)) ⌝ }
+    ensures { λ r. ⌜ (r ≡ length (recordOf item a n)) × (now (out .exit) ≡ sets (now (out .entry)) at (recordOf item a n)) ⌝ }
 {
     match item {
         Shown::Verb(number) => {
             let t = [1, number];
             text::copy(out, at, &t);
-            2
+            words::record_len(1)
         }
         Shown::Option(number) => put_mere(out, at, number, a + n),
-        Shown::Argument(number) => {
-            put_option(out, at, number, a, n);
-            6
-        }
-        Shown::Target => {
-            put_target(out, at, a, n);
-            5
-        }
-        Shown::Property { name, operator } => {
-            put_property(out, at, name, operator, a, n);
-            10
-        }
+        Shown::Argument(number) => put_option(out, at, number, a, n),
+        Shown::Target => put_target(out, at, a, n),
+        Shown::Property { name, operator } => put_property(out, at, name, operator, a, n),
     }
 }
 
@@ -530,18 +527,18 @@ fn is_blank(line: &[u8]) -> bool
 // The refusal of a line's terms, or how many bytes their records have; where they are not refused, the records stand at the room's start, as far as it goes.
 fn put_records(line: &[u8], out: &mut [u8]) -> Answer
     requires { ⌜ length (now line) ≤ 1024 ⌝ }
-    ensures { λ r. ⌜ (r ≡ totalFrom 0 (left (now (line .entry)) start)) × (verdictIn (left (now (line .entry)) start) ≡ Verdict.Fine → now (out .exit) ≡ sets (now (out .entry)) 0 (recordsIn (left (now (line .entry)) start))) ⌝ }
+    ensures { λ r. ⌜ (r ≡ totalFrom 0 (left (now (line .entry)) firstCursor)) × (verdictIn (left (now (line .entry)) firstCursor) ≡ Verdict.Fine → now (out .exit) ≡ sets (now (out .entry)) 0 (recordsIn (left (now (line .entry)) firstCursor))) ⌝ }
 {
     let c = Cursor::begin();
     let mut at = c.at;
     let mut state = c.state;
     let mut w: usize = 0;
     loop {
-        let g = given_next(line, at, state);
+        let g = offer_next(line, at, state);
         match g {
-            Given::End => return Answer::Wrote(w),
-            Given::Refused { number, place } => return Answer::Refused { number, place },
-            Given::Part { item, start, len } => {
+            Offer::End => return Answer::Wrote(w),
+            Offer::Refused { number, place } => return Answer::Refused { number, place },
+            Offer::Part { item, start, len } => {
                 w += put_record(out, w, item, start, len);
                 state = after(state, item);
                 at = start + len;
@@ -560,7 +557,7 @@ fn put_reading(line: &[u8], out: &mut [u8]) -> Answer
         Verdict::Fine => {
             if is_blank(line) {
                 text::put(out, 0, 6);
-                return Answer::Wrote(1);
+                return Answer::Wrote(words::record_len(6));
             }
             put_records(line, out)
         }
@@ -618,20 +615,20 @@ fn is_target(item: Shown) -> bool
 
 // Where the target of a line that is not refused stands.
 fn first_target(line: &[u8]) -> Span
-    requires { ⌜ verdictIn (left (now line) start) ≡ Verdict.Fine ⌝ }
-    ensures { λ r. ⌜ r ≡ targetIn (left (now (line .entry)) start) ⌝ }
+    requires { ⌜ verdictIn (left (now line) firstCursor) ≡ Verdict.Fine ⌝ }
+    ensures { λ r. ⌜ r ≡ targetIn (left (now (line .entry)) firstCursor) ⌝ }
 {
     let mut c = Cursor::begin();
     loop {
         let s = c.next(line);
-        let g = s.given;
+        let g = s.offer;
         match g {
-            Given::End => return Span { at: 0, len: 0 },
-            Given::Refused {
+            Offer::End => return Span { at: 0, len: 0 },
+            Offer::Refused {
                 number: _,
                 place: _,
             } => return Span { at: 0, len: 0 },
-            Given::Part { item, start, len } => {
+            Offer::Part { item, start, len } => {
                 if is_target(item) {
                     return Span { at: start, len };
                 }
@@ -672,7 +669,8 @@ pub fn target<'a>(line: &'a [u8]) -> &'a [u8]
 pub fn put_refusal(out: &mut [u8], number: u8, place: u16) -> Answer
     ensures { λ r. ⌜ (r ≡ fitted (length (now (out .entry))) (refusalRecord number place)) × (now (out .exit) ≡ filled (now (out .entry)) (refusalRecord number place)) ⌝ }
 {
-    if out.len() < 4 {
+    let size = words::record_len(5);
+    if out.len() < size {
         return Answer::Refused {
             number: 19,
             place: 0,
@@ -681,19 +679,20 @@ pub fn put_refusal(out: &mut [u8], number: u8, place: u16) -> Answer
     let p = place as usize;
     let t = [5, number, high(p), low(p)];
     text::copy(out, 0, &t);
-    Answer::Wrote(4)
+    Answer::Wrote(size)
 }
 
 // A cut.
 pub fn put_cut(out: &mut [u8]) -> Answer
     ensures { λ r. ⌜ (r ≡ fitted (length (now (out .entry))) cutRecord) × (now (out .exit) ≡ filled (now (out .entry)) cutRecord) ⌝ }
 {
-    if out.len() < 1 {
+    let size = words::record_len(7);
+    if out.len() < size {
         return Answer::Refused {
             number: 19,
             place: 0,
         };
     }
     text::put(out, 0, 7);
-    Answer::Wrote(1)
+    Answer::Wrote(size)
 }

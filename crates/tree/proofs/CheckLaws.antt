@@ -7,13 +7,13 @@ use native.Mathlib.Omega.{arith}
 use borrow.Author.Tests.{eq-eqb, ne-eqb, lt-ltb, le-ltb, not-false}
 use lib.Dec.{eqb}
 use lib.ListN.{length, getD, take, drop, length-drop, length-take}
-use lib.Seq.{drop-drop, length-take-le}
+use lib.Seq.{drop-drop, length-take-le, getD-take}
 use Rattle.text.specs.Bytes.{sameBytes, isLetter}
 use Rattle.text.specs.Lists.{allOf, anyOf, runLen}
-use Rattle.text.proofs.Basics.{or-in-l, or-in-r, either}
+use Rattle.text.proofs.Tests.{or-in-l, or-in-r, either}
 use Rattle.text.proofs.Scans.{all-on, all-stops, all-past-end, same-length, all-run, run-all}
 use Rattle.text.proofs.Slices.{part-from, length-from, part-between}
-use Rattle.tree.specs.Tree.{parentIn, tagLenIn, tagIn, paddingIn, numberIn, isZero, sameNode, twinIn, twin, holds, badForm, badRecord, records, checkFrom, checkTree}
+use Rattle.tree.specs.Tree.{parentIn, tagLenIn, tagIn, paddingIn, numberIn, isZero, sameNode, twinIn, twin, isTrue, badForm, badRecord, records, checkFrom, checkTree}
 use Rattle.tree.specs.declared.Checked.the-variants.{Good, Bad}
 
 -- ---- zeros
@@ -29,6 +29,10 @@ module _ (s : List ℕ) (i : ℕ) where
   zeros-end h inv = sym (all-past-end isZero s i h) ∙ inv
 
 -- ---- the same node
+
+-- a record is what its 22 bytes say
+pub cut-byte : (m : ℕ) (r : List ℕ) → 22 ≤ m → (i : ℕ) → i < 22 → getD (take m r) i 0 ≡ getD r i 0
+cut-byte m r h i l = getD-take m r i 0 (omega arith)
 
 module _ (a b : List ℕ) where
   pub other-parent : (p q : ℕ) → p ≡ parentIn a → q ≡ parentIn b → (p ≡ q → ⊥) → false ≡ sameNode a b
@@ -72,9 +76,10 @@ module _ (e r : List ℕ) (n j p : ℕ) where
   here : (x : Bool) → x ≡ sameNode (take (length e - p) (drop p e)) r → sameNode (drop p e) r ≡ x
   here x y = sym (y ∙ ap (λ (l : List ℕ). sameNode l r) (part-from e p))
 
-  pub twin-again : (x : Bool) → j < n → x ≡ sameNode (take (length e - p) (drop p e)) r → x ≡ false → twinIn (n - j) (drop p e) r ≡ twin e r
-      → twinIn (n - (j + 1)) (drop (p + 22) e) r ≡ twin e r
-  twin-again x h y f inv = sym (twin-step h ∙ ap (λ (b : Bool). b || twinIn (n - (j + 1)) (drop (p + 22) e) r) (here x y ∙ f)) ∙ inv
+  pub twin-again : (x : Bool) (size : ℕ) → size ≡ 22 → j < n → x ≡ sameNode (take (length e - p) (drop p e)) r → x ≡ false → twinIn (n - j) (drop p e) r ≡ twin e r
+      → twinIn (n - (j + 1)) (drop (p + size) e) r ≡ twin e r
+  twin-again x size s h y f inv =
+      ap (λ (m : ℕ). twinIn (n - (j + 1)) (drop (p + m) e) r) s ∙ sym (twin-step h ∙ ap (λ (b : Bool). b || twinIn (n - (j + 1)) (drop (p + 22) e) r) (here x y ∙ f)) ∙ inv
 
   pub twin-stop : (x : Bool) → j < n → x ≡ sameNode (take (length e - p) (drop p e)) r → x ≡ true → twinIn (n - j) (drop p e) r ≡ twin e r → true ≡ twin e r
   twin-stop x h y f inv = sym (twin-step h ∙ ap (λ (b : Bool). b || twinIn (n - (j + 1)) (drop (p + 22) e) r) (here x y ∙ f)) ∙ inv
@@ -94,16 +99,16 @@ whole-from e n j p h k q = omega (arith, length-from e p)
 -- ---- bad records
 
 -- one test that holds, and none
-pub any-nth : (l : List Bool) (i : ℕ) → getD l i false ≡ true → anyOf holds l ≡ true
+pub any-nth : (l : List Bool) (i : ℕ) → getD l i false ≡ true → anyOf isTrue l ≡ true
 unfolding anyOf
 any-nth [] i e = e
-any-nth (x ∷ l) zero e = or-in-l x (anyOf holds l) e
-any-nth (x ∷ l) (suc i) e = or-in-r x (anyOf holds l) (any-nth l i e)
+any-nth (x ∷ l) zero e = or-in-l x (anyOf isTrue l) e
+any-nth (x ∷ l) (suc i) e = or-in-r x (anyOf isTrue l) (any-nth l i e)
 
 module _ (r : List ℕ) (k : ℕ) where
-  pub bad-cut : length r < 22 → true ≡ badForm r k
+  pub bad-cut : (size : ℕ) → size ≡ 22 → length r < size → true ≡ badForm r k
   unfolding badForm
-  bad-cut h = sym (any-nth _ 0 (lt-ltb (length r) 22 h))
+  bad-cut size e h = sym (any-nth _ 0 (lt-ltb (length r) 22 (omega arith)))
 
   pub bad-kind : (getD r 0 0 ≡ 16 → ⊥) → true ≡ badForm r k
   unfolding badForm
@@ -141,9 +146,9 @@ module _ (r : List ℕ) (k : ℕ) where
   run-of : (m : ℕ) → m ≡ runLen isLetter (take (4 + tagLenIn r - 4) (drop 4 r)) → m ≡ runLen isLetter (tagIn r)
   run-of m h = h ∙ ap (runLen isLetter) (tag-part (tagLenIn r) refl)
 
-  pub bad-letter : (m : ℕ) → 22 ≤ length r → tagLenIn r ≤ 16 → m ≡ runLen isLetter (take (4 + tagLenIn r - 4) (drop 4 r)) → (m ≡ tagLenIn r → ⊥) → true ≡ badForm r k
+  pub bad-letter : (m size : ℕ) → size ≡ 22 → size ≤ length r → tagLenIn r ≤ 16 → m ≡ runLen isLetter (take (4 + tagLenIn r - 4) (drop 4 r)) → (m ≡ tagLenIn r → ⊥) → true ≡ badForm r k
   unfolding badForm
-  bad-letter m h s x n = sym (any-nth _ 6 (either (allOf isLetter (tagIn r)) (λ y. absurd (n (run-of m x ∙ all-run isLetter (tagIn r) y ∙ tag-length h s))) (λ y. simp y)))
+  bad-letter m size e h s x n = sym (any-nth _ 6 (either (allOf isLetter (tagIn r)) (λ y. absurd (n (run-of m x ∙ all-run isLetter (tagIn r) y ∙ tag-length (omega arith) s))) (λ y. simp y)))
 
   pub bad-padding : (z : Bool) → tagLenIn r ≤ 16 → z ≡ allOf isZero (take (20 - (4 + tagLenIn r)) (drop (4 + tagLenIn r) r)) → not z ≡ true → true ≡ badForm r k
   unfolding badForm
@@ -154,16 +159,16 @@ module _ (r : List ℕ) (k : ℕ) where
   bad-number m x z = sym (any-nth _ 8 (eq-eqb (numberIn r) 0 (sym x ∙ z)))
 
   -- no test holds
-  pub form-good : (p m n : ℕ) (z : Bool) → 22 ≤ length r → getD r 0 0 ≡ 16 → k ≤ 511 → p ≡ parentIn r → p ≤ k → 1 ≤ tagLenIn r → tagLenIn r ≤ 16
+  pub form-good : (p m n size : ℕ) (z : Bool) → size ≡ 22 → size ≤ length r → getD r 0 0 ≡ 16 → k ≤ 511 → p ≡ parentIn r → p ≤ k → 1 ≤ tagLenIn r → tagLenIn r ≤ 16
       → m ≡ runLen isLetter (take (4 + tagLenIn r - 4) (drop 4 r)) → m ≡ tagLenIn r
       → z ≡ allOf isZero (take (20 - (4 + tagLenIn r)) (drop (4 + tagLenIn r) r)) → not z ≡ false → n ≡ numberIn r → (n ≡ 0 → ⊥) → false ≡ badForm r k
   unfolding badForm anyOf
-  form-good p m n z cut kind beyond q low one short run all pad nought nu pos =
-      let l : allOf isLetter (tagIn r) ≡ true = run-all isLetter (tagIn r) (sym (run-of m run) ∙ all ∙ sym (tag-length cut short)) in
+  form-good p m n size z e cut kind beyond q low one short run all pad nought nu pos =
+      let l : allOf isLetter (tagIn r) ≡ true = run-all isLetter (tagIn r) (sym (run-of m run) ∙ all ∙ sym (tag-length (omega arith) short)) in
       let y : allOf isZero (paddingIn r) ≡ true = ap (allOf isZero) (sym (padding-part short)) ∙ sym pad ∙ not-false z nought in
       sym
       (simp (
-        le-ltb (length r) 22 cut,
+        le-ltb (length r) 22 (omega arith),
         eq-eqb (getD r 0 0) 16 kind,
         le-ltb 511 k beyond,
         le-ltb k (parentIn r) (omega arith),

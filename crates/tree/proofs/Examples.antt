@@ -16,7 +16,7 @@ use Rattle.tree.specs.declared.Resolved.{Resolved}
 use Rattle.tree.specs.declared.Resolved.the-variants as resolved
 use Rattle.tree.specs.Tree.{tagIn, paddingIn, sameNode, twinIn, twin, badForm, badRecord, checkFrom, checkTree, recordAt}
 use Rattle.tree.specs.Path.{segment, pathUp, fullPath, pathAnswer}
-use Rattle.tree.specs.Resolve.{nodesFrom, isTagged, isNamed, taggedUnder, namedUnder, along, foundOf, resolveOf, resolveList}
+use Rattle.tree.specs.Resolve.{nodesFrom, taggedIn, namedIn, isTagged, isNamed, taggedUnder, namedUnder, along, instancesOf, resolveOf, resolveList}
 
 -- a record: parent, tag, number
 unfoldable node : ℕ → String → ℕ → List ℕ
@@ -50,7 +50,7 @@ resolving : map addressed texts
     ∷ (resolved.Session, 9 ∷ 9 ∷ [])
     ∷ (resolved.Refused 12 0, 9 ∷ 9 ∷ [])
     ∷ []
-unfolding texts addressed small node bytes sameBytes allOf anyOf parts runLen valueFrom isDecimal wrote filled sessionName tagLen isNumbered isStarred isSegment areSegments segmentOf segmentsOf pathOf targetOf tagIn paddingIn sameNode twinIn twin badForm badRecord checkFrom checkTree recordAt nodesFrom isTagged isNamed taggedUnder namedUnder along foundOf resolveOf resolveList
+unfolding texts addressed small node bytes sameBytes allOf anyOf parts runLen valueFrom isDecimal wrote filled sessionName tagLen isNumbered isStarred isSegment areSegments segmentOf segmentsOf pathOf targetOf tagIn paddingIn sameNode twinIn twin badForm badRecord checkFrom checkTree recordAt nodesFrom taggedIn namedIn isTagged isNamed taggedUnder namedUnder along instancesOf resolveOf resolveList
 resolving = refl
 
 paths : (checkTree small ≡ Good) × (checkTree (small ++ node 1 "cpu" 4) ≡ Bad 132) × (checkTree (node 1 "cpu" 4) ≡ Bad 0) × (fullPath small 0 ≡ bytes "/") × (fullPath small 4 ≡ bytes "/system1/fan65535")

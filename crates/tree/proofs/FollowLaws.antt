@@ -19,8 +19,8 @@ use Rattle.forms.specs.Targets.{Segment, here, above, child, children, segmentO
 use Rattle.forms.specs.Answers.{pieceOf, segmentText, segmentAt}
 use Rattle.forms.proofs.SegmentLaws.{segment-text, segment-within, parts-last, parts-more}
 use Rattle.tree.specs.Tree.{records, parent}
-use Rattle.tree.specs.Resolve.{nodesFrom, isNamed, namedUnder, Found, nodes, refused, orNone, stepBy, along}
-use Rattle.tree.specs.Steps.{firstOf, segmentsFrom, alongFrom, starred}
+use Rattle.tree.specs.Resolve.{nodesFrom, isNamed, namedUnder, Instances, nodes, unresolved, orNone, starred, segmentStep, along}
+use Rattle.tree.specs.Steps.{firstOf, segmentsFrom, alongFrom}
 use Rattle.forms.proofs.FormCases.{segment-from}
 
 -- ---- a segment, and those after it
@@ -44,7 +44,7 @@ module _ (text t : List ℕ) (n at : ℕ) where
   unfolding alongFrom segmentsFrom along
   follow-past h = sym (rw (lt-leb at (length text) h))
 
-  along-step : at ≤ length text → alongFrom text t n at ≡ stepBy t n at (segmentOf (segmentText text at)) (λ m. alongFrom text t m (at + length (segmentText text at) + 1))
+  along-step : at ≤ length text → alongFrom text t n at ≡ segmentStep t n at (segmentOf (segmentText text at)) (λ m. alongFrom text t m (at + length (segmentText text at) + 1))
   unfolding alongFrom along
   along-step h = ap (along t n at) (segments-step text at h)
 
@@ -107,10 +107,10 @@ named-some : (t : List ℕ) (n : ℕ) (a : List ℕ) (i : ℕ) → firstOf (name
 unfolding namedUnder
 named-some t n a i e = nodes-some (isNamed t n a i) 0 (records t) e
 
-no-first : (at : ℕ) (l : List ℕ) (f : ℕ → List ℕ → Found) → (firstOf l ≡ 0 → l ≡ []) → firstOf l ≡ 0 → orNone at l f ≡ refused 18 at
+no-first : (at : ℕ) (l : List ℕ) (f : ℕ → List ℕ → Instances) → (firstOf l ≡ 0 → l ≡ []) → firstOf l ≡ 0 → orNone at l f ≡ unresolved 18 at
 no-first at l f h e = ap (λ (x : List ℕ). orNone at x f) (h e)
 
-the-first : (at : ℕ) (l : List ℕ) (f : ℕ → Found) (m : ℕ) → m ≡ firstOf l → (m ≡ 0 → ⊥) → orNone at l (λ k ks. f k) ≡ f m
+the-first : (at : ℕ) (l : List ℕ) (f : ℕ → Instances) (m : ℕ) → m ≡ firstOf l → (m ≡ 0 → ⊥) → orNone at l (λ k ks. f k) ≡ f m
 the-first at [] f m e z = absurd (z e)
 the-first at (x ∷ l) f m e z = ap f (sym e)
 
@@ -176,18 +176,18 @@ module _ (text : List ℕ) (at : ℕ) (p : Piece) (h : at ≤ length text) (r : 
 
   module _ (t : List ℕ) (n : ℕ) where
     by : (o : Option Segment) (len : ℕ) → segmentOf (segmentText text at) ≡ o → len ≡ length (segmentText text at)
-        → alongFrom text t n at ≡ stepBy t n at o (λ m. alongFrom text t m (at + len + 1))
+        → alongFrom text t n at ≡ segmentStep t n at o (λ m. alongFrom text t m (at + len + 1))
     by o len e l =
-        along-step text t n at h ∙ ap (λ (q : Option Segment). stepBy t n at q (λ m. alongFrom text t m (at + length (segmentText text at) + 1))) e
-        ∙ ap (λ (i : ℕ). stepBy t n at o (λ m. alongFrom text t m (at + i + 1))) (sym l)
+        along-step text t n at h ∙ ap (λ (q : Option Segment). segmentStep t n at q (λ m. alongFrom text t m (at + length (segmentText text at) + 1))) e
+        ∙ ap (λ (i : ℕ). segmentStep t n at o (λ m. alongFrom text t m (at + i + 1))) (sym l)
 
-    pub follow-here : (len : ℕ) (f : Found) → p ≡ piece.Here len → f ≡ alongFrom text t n (at + len + 1) → f ≡ alongFrom text t n at
+    pub follow-here : (len : ℕ) (f : Instances) → p ≡ piece.Here len → f ≡ alongFrom text t n (at + len + 1) → f ≡ alongFrom text t n at
     follow-here len f q v = let w = is-here-at len q in v ∙ sym (by (some here) len (w .0) (w .1))
 
-    pub follow-root : (len : ℕ) → p ≡ piece.Above len → n ≡ 0 → refused 17 at ≡ alongFrom text t n at
+    pub follow-root : (len : ℕ) → p ≡ piece.Above len → n ≡ 0 → unresolved 17 at ≡ alongFrom text t n at
     follow-root len q z = let w = is-above-at len q in sym (by (some above) len (w .0) (w .1) ∙ simp (eq-eqb n 0 z))
 
-    pub follow-above : (len m : ℕ) (f : Found) → p ≡ piece.Above len → (n ≡ 0 → ⊥) → m ≡ parent t n → f ≡ alongFrom text t m (at + len + 1) → f ≡ alongFrom text t n at
+    pub follow-above : (len m : ℕ) (f : Instances) → p ≡ piece.Above len → (n ≡ 0 → ⊥) → m ≡ parent t n → f ≡ alongFrom text t m (at + len + 1) → f ≡ alongFrom text t n at
     follow-above len m f q z e v =
         let w = is-above-at len q in
         v ∙ ap (λ (k : ℕ). alongFrom text t k (at + len + 1)) e ∙ sym (by (some above) len (w .0) (w .1) ∙ simp (ne-eqb n 0 z))
@@ -199,20 +199,19 @@ module _ (text : List ℕ) (at : ℕ) (p : Piece) (h : at ≤ length text) (r : 
           by (some (child (take tag (drop at text)) i)) len (w .0) (w .1)
           ∙ ap (λ (a : List ℕ). orNone at (namedUnder t n a i) (λ m ms. alongFrom text t m (at + len + 1))) (sym (part-between text at tag))
 
-      pub follow-none : (m : ℕ) → m ≡ firstOf (namedUnder t n (take (at + tag - at) (drop at text)) i) → m ≡ 0 → refused 18 at ≡ alongFrom text t n at
+      pub follow-none : (m : ℕ) → m ≡ firstOf (namedUnder t n (take (at + tag - at) (drop at text)) i) → m ≡ 0 → unresolved 18 at ≡ alongFrom text t n at
       follow-none m e z =
           let l = namedUnder t n (take (at + tag - at) (drop at text)) i in
           sym (step ∙ no-first at l (λ k ks. alongFrom text t k (at + len + 1)) (named-some t n (take (at + tag - at) (drop at text)) i) (sym e ∙ z))
 
-      pub follow-child : (m : ℕ) (f : Found) → m ≡ firstOf (namedUnder t n (take (at + tag - at) (drop at text)) i) → (m ≡ 0 → ⊥)
+      pub follow-child : (m : ℕ) (f : Instances) → m ≡ firstOf (namedUnder t n (take (at + tag - at) (drop at text)) i) → (m ≡ 0 → ⊥)
           → f ≡ alongFrom text t m (at + len + 1) → f ≡ alongFrom text t n at
       follow-child m f e z v =
           v ∙ sym (step ∙ the-first at (namedUnder t n (take (at + tag - at) (drop at text)) i) (λ k. alongFrom text t k (at + len + 1)) m e z)
 
     pub follow-star : (len tag : ℕ) → p ≡ piece.Children len tag → starred t n at (take tag (drop at text)) ≡ alongFrom text t n at
-    unfolding starred
     follow-star len tag q = let w = is-star-at len tag q in sym (by (some (children (take tag (drop at text)))) len (w .0) (w .1))
 
-    pub follow-no : p ≡ piece.No → refused 12 0 ≡ alongFrom text t n at
+    pub follow-no : p ≡ piece.No → unresolved 12 0 ≡ alongFrom text t n at
     unfolding Says
     follow-no q = sym (by none (length (segmentText text at)) (said-as piece.No q) refl)

@@ -14,14 +14,15 @@ use Rattle.text.specs.Bytes.{sameBytes}
 use Rattle.text.specs.Lists.{parts, isNil}
 use Rattle.text.specs.declared.Verdict.{Verdict}
 use Rattle.text.specs.declared.Verdict.the-variants as verdict
-use Rattle.text.proofs.Basics.{no-case, parts-some}
+use Rattle.text.proofs.Tests.{no-case}
+use Rattle.text.proofs.Parts.{parts-some}
 use Rattle.text.proofs.Slices.{part-between}
 use Rattle.text.proofs.Writes.{sets-append, filled-none, filled-sets}
 use Rattle.words.specs.Words.{sessionName}
 use Rattle.forms.specs.declared.Where.{Where}
 use Rattle.forms.specs.declared.Where.the-variants as where′
 use Rattle.forms.specs.Targets.{isSeparator, areSegments, Target, session, path, segmentsOf, pathOf, targetOf}
-use Rattle.forms.specs.Answers.{whereOf, targetIn}
+use Rattle.forms.specs.Answers.{whereOf, whereIn}
 use Rattle.tree.specs.declared.Checked.{Checked}
 use Rattle.tree.specs.declared.Checked.the-variants.{Good, Bad}
 use Rattle.tree.specs.declared.Resolved.{Resolved}
@@ -29,8 +30,8 @@ use Rattle.tree.specs.declared.Resolved.the-variants as resolved
 use Rattle.tree.specs.declared.Spot.{Spot}
 use Rattle.tree.specs.declared.Spot.the-variants.{Node, Tagged, Lost}
 use Rattle.tree.specs.Tree.{records, checkTree}
-use Rattle.tree.specs.Resolve.{nodesFrom, isTagged, taggedUnder, Found, session′, nodes, refused, orNone, along, inTree, from, orForm, foundOf, resolvedBy, listBy, resolveOf, resolveList}
-use Rattle.tree.specs.Steps.{taggedIn, kept, verdictBy, verdictOf, segmentsFrom, alongFrom, starred, foundAt, Within}
+use Rattle.tree.specs.Resolve.{taggedIn, nodesFrom, isTagged, taggedUnder, Instances, session′, nodes, unresolved, orNone, starred, along, inTree, from, orForm, instancesOf, resolvedBy, listBy, resolveOf, resolveList}
+use Rattle.tree.specs.Steps.{kept, verdictBy, verdictOf, segmentsFrom, alongFrom, instancesAt, Within}
 use Rattle.tree.proofs.GoodLaws.{good-whole, good-few}
 use Rattle.tree.proofs.StepLaws.{nodes-step, nodes-none, all-nodes, tagged-at}
 
@@ -118,7 +119,7 @@ module _ (n : ℕ) where
   pub one-put : (room y : List ℕ) → 1 ≤ length room → y ≡ set room 0 n → y ≡ listBy room (nodes (n ∷ []))
   one-put room y h v = v ∙ filled-sets room (n ∷ []) h
 
-star-none : (at : ℕ) (l : List ℕ) → length l ≡ 0 → orNone at l (λ m ms. nodes (m ∷ ms)) ≡ refused 18 at
+star-none : (at : ℕ) (l : List ℕ) → length l ≡ 0 → orNone at l (λ m ms. nodes (m ∷ ms)) ≡ unresolved 18 at
 star-none at [] e = refl
 star-none at (m ∷ l) e = absurd (omega arith)
 
@@ -127,12 +128,10 @@ star-some at [] e = absurd (e refl)
 star-some at (m ∷ l) e = refl
 
 module _ (t : List ℕ) (n at : ℕ) (a : List ℕ) (c : ℕ) (e : c ≡ length (taggedUnder t n a)) where
-  is-none : c ≡ 0 → starred t n at a ≡ refused 18 at
-  unfolding starred
+  is-none : c ≡ 0 → starred t n at a ≡ unresolved 18 at
   is-none z = star-none at (taggedUnder t n a) (sym e ∙ z)
 
   is-some : (c ≡ 0 → ⊥) → starred t n at a ≡ nodes (taggedUnder t n a)
-  unfolding starred
   is-some z = star-some at (taggedUnder t n a) (λ w. z (e ∙ w))
 
   pub none-given : (room : ℕ) → c ≡ 0 → resolved.Refused 18 at ≡ resolvedBy room (starred t n at a)
@@ -156,15 +155,15 @@ module _ (t : List ℕ) (n at : ℕ) (a : List ℕ) (c : ℕ) (e : c ≡ length 
 
 -- ---- where a path leads
 
-module _ (text t : List ℕ) (f : Found) (r : Spot) (e : foundAt text t r ≡ f) where
+module _ (text t : List ℕ) (f : Instances) (r : Spot) (e : instancesAt text t r ≡ f) where
   pub node-given : (n room : ℕ) (x : Resolved) → r ≡ Node n → x ≡ resolvedBy room (nodes (n ∷ [])) → x ≡ resolvedBy room f
-  node-given n room x q v = v ∙ ap (resolvedBy room) (ap (foundAt text t) (sym q) ∙ e)
+  node-given n room x q v = v ∙ ap (resolvedBy room) (ap (instancesAt text t) (sym q) ∙ e)
 
   pub node-put : (n : ℕ) (room y : List ℕ) → r ≡ Node n → y ≡ listBy room (nodes (n ∷ [])) → y ≡ listBy room f
-  node-put n room y q v = v ∙ ap (listBy room) (ap (foundAt text t) (sym q) ∙ e)
+  node-put n room y q v = v ∙ ap (listBy room) (ap (instancesAt text t) (sym q) ∙ e)
 
   tagged-is : (n p g : ℕ) → r ≡ Tagged n p g → starred t n p (take (p + g - p) (drop p text)) ≡ f
-  tagged-is n p g q = ap (starred t n p) (part-between text p g) ∙ ap (foundAt text t) (sym q) ∙ e
+  tagged-is n p g q = ap (starred t n p) (part-between text p g) ∙ ap (instancesAt text t) (sym q) ∙ e
 
   pub tagged-given : (n p g room : ℕ) (x : Resolved) → r ≡ Tagged n p g → x ≡ resolvedBy room (starred t n p (take (p + g - p) (drop p text))) → x ≡ resolvedBy room f
   tagged-given n p g room x q v = v ∙ ap (resolvedBy room) (tagged-is n p g q)
@@ -173,10 +172,10 @@ module _ (text t : List ℕ) (f : Found) (r : Spot) (e : foundAt text t r ≡ f)
   tagged-put n p g room y q v = v ∙ ap (listBy room) (tagged-is n p g q)
 
   pub lost-given : (number place room : ℕ) → r ≡ Lost number place → resolved.Refused number place ≡ resolvedBy room f
-  lost-given number place room q = ap (resolvedBy room) (ap (foundAt text t) (sym q) ∙ e)
+  lost-given number place room q = ap (resolvedBy room) (ap (instancesAt text t) (sym q) ∙ e)
 
   pub lost-put : (number place : ℕ) (room : List ℕ) → r ≡ Lost number place → room ≡ listBy room f
-  lost-put number place room q = ap (listBy room) (ap (foundAt text t) (sym q) ∙ e)
+  lost-put number place room q = ap (listBy room) (ap (instancesAt text t) (sym q) ∙ e)
 
 module _ (text t : List ℕ) (r : Spot) (w : Within text t r) where
   pub node-few : (n : ℕ) → checkTree t ≡ Good → r ≡ Node n → n ≤ 512
@@ -205,19 +204,19 @@ module _ (t : List ℕ) (d : ℕ) where
       sym (ap (λ (x : Checked). verdictBy x t d) good ∙ simp (le-ltb (records t) d (omega (arith, good-whole t good))))
 
   -- what a verdict says of the tree
-  flawed-by : (c : Checked) (number place : ℕ) (f : Found) → verdictBy c t d ≡ verdict.Flawed number place → inTree c t d f ≡ refused number place
-  flawed-by (Bad p) number place f e = let x : 15 ≡ number = cc in let y : p ≡ place = cc in ap (λ (i : ℕ). refused i p) x ∙ ap (refused number) y
+  flawed-by : (c : Checked) (number place : ℕ) (f : Instances) → verdictBy c t d ≡ verdict.Flawed number place → inTree c t d f ≡ unresolved number place
+  flawed-by (Bad p) number place f e = let x : 15 ≡ number = cc in let y : p ≡ place = cc in ap (λ (i : ℕ). unresolved i p) x ∙ ap (unresolved number) y
   flawed-by Good number place f e = go (ltb (records t) d) e
     where
-      go : (b : Bool) → cond b (verdict.Flawed 16 0) verdict.Fine ≡ verdict.Flawed number place → cond b (refused 16 0) f ≡ refused number place
-      go true q = let x : 16 ≡ number = cc in let y : 0 ≡ place = cc in ap (λ (i : ℕ). refused i 0) x ∙ ap (refused number) y
+      go : (b : Bool) → cond b (verdict.Flawed 16 0) verdict.Fine ≡ verdict.Flawed number place → cond b (unresolved 16 0) f ≡ unresolved number place
+      go true q = let x : 16 ≡ number = cc in let y : 0 ≡ place = cc in ap (λ (i : ℕ). unresolved i 0) x ∙ ap (unresolved number) y
       go false q = absurd (let z : _≡_ {A = ℕ} 0 1 = cc in omega arith)
 
-  fine-by : (c : Checked) (f : Found) → verdictBy c t d ≡ verdict.Fine → (c ≡ Good) × (d ≤ records t) × (inTree c t d f ≡ f)
+  fine-by : (c : Checked) (f : Instances) → verdictBy c t d ≡ verdict.Fine → (c ≡ Good) × (d ≤ records t) × (inTree c t d f ≡ f)
   fine-by (Bad p) f e = absurd (let z : _≡_ {A = ℕ} 0 1 = cc in omega arith)
   fine-by Good f e = go (ltb (records t) d) refl e
     where
-      go : (b : Bool) → ltb (records t) d ≡ b → cond b (verdict.Flawed 16 0) verdict.Fine ≡ verdict.Fine → (Good ≡ Good) × (d ≤ records t) × (cond (ltb (records t) d) (refused 16 0) f ≡ f)
+      go : (b : Bool) → ltb (records t) d ≡ b → cond b (verdict.Flawed 16 0) verdict.Fine ≡ verdict.Fine → (Good ≡ Good) × (d ≤ records t) × (cond (ltb (records t) d) (unresolved 16 0) f ≡ f)
       go true q x = absurd (let z : _≡_ {A = ℕ} 0 1 = cc in omega arith)
       go false q x = (refl, ltb-false (records t) d q, rw q)
 
@@ -226,7 +225,7 @@ module _ (t : List ℕ) (d : ℕ) where
     unfolding verdictOf
     said = sym e
 
-    module _ (f : Found) (number place : ℕ) (q : v ≡ verdict.Flawed number place) where
+    module _ (f : Instances) (number place : ℕ) (q : v ≡ verdict.Flawed number place) where
       pub flawed-given : (room : ℕ) → resolved.Refused number place ≡ resolvedBy room (inTree (checkTree t) t d f)
       flawed-given room = sym (ap (resolvedBy room) (flawed-by (checkTree t) number place f (said ∙ q)))
 
@@ -240,10 +239,10 @@ module _ (t : List ℕ) (d : ℕ) where
       pub fine-node : (n : ℕ) → n ≤ d → n ≤ records t
       fine-node n h = let w = fine-by (checkTree t) session′ (said ∙ q) .1 in omega arith
 
-      pub fine-given : (f : Found) (room : ℕ) (x : Resolved) → x ≡ resolvedBy room f → x ≡ resolvedBy room (inTree (checkTree t) t d f)
+      pub fine-given : (f : Instances) (room : ℕ) (x : Resolved) → x ≡ resolvedBy room f → x ≡ resolvedBy room (inTree (checkTree t) t d f)
       fine-given f room x u = u ∙ sym (ap (resolvedBy room) (fine-by (checkTree t) f (said ∙ q) .2))
 
-      pub fine-put : (f : Found) (room y : List ℕ) → y ≡ listBy room f → y ≡ listBy room (inTree (checkTree t) t d f)
+      pub fine-put : (f : Instances) (room y : List ℕ) → y ≡ listBy room f → y ≡ listBy room (inTree (checkTree t) t d f)
       fine-put f room y u = u ∙ sym (ap (listBy room) (fine-by (checkTree t) f (said ∙ q) .2))
 
       pub session-given : resolved.Session ≡ resolvedBy 0 (inTree (checkTree t) t d session′)
@@ -296,43 +295,43 @@ some-parts s ss n e l z = go (parts isSeparator s) (parts-some isSeparator s) (s
     go (x ∷ p) h k = omega arith
 
 module _ (t : List ℕ) (d : ℕ) where
-  pub found-empty : (text : List ℕ) → length text ≡ 0 → foundOf text t d ≡ inTree (checkTree t) t d (alongFrom text t d 1)
-  unfolding foundOf alongFrom segmentsFrom along
+  pub found-empty : (text : List ℕ) → length text ≡ 0 → instancesOf text t d ≡ inTree (checkTree t) t d (alongFrom text t d 1)
+  unfolding instancesOf alongFrom segmentsFrom along
   found-empty [] e = refl
   found-empty (b ∷ s) e = absurd (omega arith)
 
-  module _ (text : List ℕ) (some′ : length text ≡ 0 → ⊥) (w : Where) (r : w ≡ targetIn text) where
-    found-by : (text : List ℕ) → (length text ≡ 0 → ⊥) → foundOf text t d ≡ orForm (targetOf text) t d
-    unfolding foundOf
+  module _ (text : List ℕ) (some′ : length text ≡ 0 → ⊥) (w : Where) (r : w ≡ whereIn text) where
+    found-by : (text : List ℕ) → (length text ≡ 0 → ⊥) → instancesOf text t d ≡ orForm (targetOf text) t d
+    unfolding instancesOf
     found-by [] h = absurd (h refl)
     found-by (b ∷ s) h = refl
 
     said-form : whereOf (targetOf text) ≡ w
-    unfolding targetIn
+    unfolding whereIn
     said-form = sym r
 
-    pub found-no : w ≡ where′.No → foundOf text t d ≡ refused 12 0
+    pub found-no : w ≡ where′.No → instancesOf text t d ≡ unresolved 12 0
     found-no q = found-by text some′ ∙ ap (λ (o : Option Target). orForm o t d) (is-no (targetOf text) (said-form ∙ q))
 
-    pub found-session : w ≡ where′.Session → foundOf text t d ≡ inTree (checkTree t) t d session′
+    pub found-session : w ≡ where′.Session → instancesOf text t d ≡ inTree (checkTree t) t d session′
     found-session q = found-by text some′ ∙ ap (λ (o : Option Target). orForm o t d) (is-session (targetOf text) (said-form ∙ q))
 
     module _ (rooted : Bool) (n : ℕ) (q : w ≡ where′.Path rooted n) where
       its : (ss : List (List ℕ)) × (targetOf text ≡ some (path rooted ss)) × (n ≡ length ss)
       its = is-path (targetOf text) rooted n (said-form ∙ q)
 
-      found-path : foundOf text t d ≡ inTree (checkTree t) t d (from t d (path rooted (its .0)))
+      found-path : instancesOf text t d ≡ inTree (checkTree t) t d (from t d (path rooted (its .0)))
       found-path = found-by text some′ ∙ ap (λ (o : Option Target). orForm o t d) (its .1)
 
-      pub found-root : n ≡ 0 → foundOf text t d ≡ inTree (checkTree t) t d (alongFrom text t 0 2)
+      pub found-root : n ≡ 0 → instancesOf text t d ≡ inTree (checkTree t) t d (alongFrom text t 0 2)
       unfolding alongFrom segmentsFrom along
       found-root z = go text refl
         where
-          go : (s : List ℕ) → text ≡ s → foundOf text t d ≡ inTree (checkTree t) t d (alongFrom text t 0 2)
+          go : (s : List ℕ) → text ≡ s → instancesOf text t d ≡ inTree (checkTree t) t d (alongFrom text t 0 2)
           go [] e = absurd (some′ (ap length e))
           go (b ∷ s) e = by (starts b s rooted (its .0) (ap targetOf (sym e) ∙ its .1))
             where
-              by : Start b s rooted (its .0) → foundOf text t d ≡ inTree (checkTree t) t d (alongFrom text t 0 2)
+              by : Start b s rooted (its .0) → instancesOf text t d ≡ inTree (checkTree t) t d (alongFrom text t 0 2)
               by (root x y k) =
                   let a : from t d (path rooted (its .0)) ≡ nodes (0 ∷ []) = ap (λ (c : Bool). from t d (path c (its .0))) y ∙ ap (λ (l : List (List ℕ)). along t 0 1 l) k in
                   let c : alongFrom text t 0 2 ≡ nodes (0 ∷ []) = ap (λ (l : List ℕ). alongFrom l t 0 2) (e ∙ ap (λ (l : List ℕ). b ∷ l) x) in
@@ -340,15 +339,15 @@ module _ (t : List ℕ) (d : ℕ) where
               by (under y k) = absurd (some-parts s (its .0) n k (its .2) z)
               by (beside y k) = absurd (some-parts (b ∷ s) (its .0) n k (its .2) z)
 
-      pub found-under : (n ≡ 0 → ⊥) → rooted ≡ true → foundOf text t d ≡ inTree (checkTree t) t d (alongFrom text t 0 1)
+      pub found-under : (n ≡ 0 → ⊥) → rooted ≡ true → instancesOf text t d ≡ inTree (checkTree t) t d (alongFrom text t 0 1)
       unfolding alongFrom segmentsFrom
       found-under z u = go text refl
         where
-          go : (s : List ℕ) → text ≡ s → foundOf text t d ≡ inTree (checkTree t) t d (alongFrom text t 0 1)
+          go : (s : List ℕ) → text ≡ s → instancesOf text t d ≡ inTree (checkTree t) t d (alongFrom text t 0 1)
           go [] e = absurd (some′ (ap length e))
           go (b ∷ s) e = by (starts b s rooted (its .0) (ap targetOf (sym e) ∙ its .1))
             where
-              by : Start b s rooted (its .0) → foundOf text t d ≡ inTree (checkTree t) t d (alongFrom text t 0 1)
+              by : Start b s rooted (its .0) → instancesOf text t d ≡ inTree (checkTree t) t d (alongFrom text t 0 1)
               by (root x y k) = absurd (z (its .2 ∙ ap length k))
               by (under y k) =
                   let a : from t d (path rooted (its .0)) ≡ along t 0 1 (parts isSeparator s) = ap (λ (c : Bool). from t d (path c (its .0))) y ∙ ap (along t 0 1) k in
@@ -356,15 +355,15 @@ module _ (t : List ℕ) (d : ℕ) where
                   found-path ∙ ap (inTree (checkTree t) t d) (a ∙ sym c)
               by (beside y k) = no-case (sym u ∙ y)
 
-      pub found-beside : (n ≡ 0 → ⊥) → rooted ≡ false → foundOf text t d ≡ inTree (checkTree t) t d (alongFrom text t d 0)
+      pub found-beside : (n ≡ 0 → ⊥) → rooted ≡ false → instancesOf text t d ≡ inTree (checkTree t) t d (alongFrom text t d 0)
       unfolding alongFrom segmentsFrom
       found-beside z u = go text refl
         where
-          go : (s : List ℕ) → text ≡ s → foundOf text t d ≡ inTree (checkTree t) t d (alongFrom text t d 0)
+          go : (s : List ℕ) → text ≡ s → instancesOf text t d ≡ inTree (checkTree t) t d (alongFrom text t d 0)
           go [] e = absurd (some′ (ap length e))
           go (b ∷ s) e = by (starts b s rooted (its .0) (ap targetOf (sym e) ∙ its .1))
             where
-              by : Start b s rooted (its .0) → foundOf text t d ≡ inTree (checkTree t) t d (alongFrom text t d 0)
+              by : Start b s rooted (its .0) → instancesOf text t d ≡ inTree (checkTree t) t d (alongFrom text t d 0)
               by (root x y k) = no-case (sym y ∙ u)
               by (under y k) = no-case (sym y ∙ u)
               by (beside y k) =
@@ -375,11 +374,11 @@ module _ (t : List ℕ) (d : ℕ) where
 -- ---- the answer and the list, by what was found
 
 module _ (text t : List ℕ) (d : ℕ) where
-  answer-as : (room : ℕ) (f : Found) → foundOf text t d ≡ f → resolvedBy room f ≡ resolveOf room text t d
+  answer-as : (room : ℕ) (f : Instances) → instancesOf text t d ≡ f → resolvedBy room f ≡ resolveOf room text t d
   unfolding resolveOf
   answer-as room f e = ap (resolvedBy room) (sym e)
 
-  list-as : (room : List ℕ) (f : Found) → foundOf text t d ≡ f → listBy room f ≡ resolveList room text t d
+  list-as : (room : List ℕ) (f : Instances) → instancesOf text t d ≡ f → listBy room f ≡ resolveList room text t d
   unfolding resolveList
   list-as room f e = ap (listBy room) (sym e)
 
@@ -394,7 +393,7 @@ module _ (text t : List ℕ) (d : ℕ) where
   session-room (Bad p) room = refl
   session-room Good room = go (ltb (records t) d)
     where
-      go : (b : Bool) → resolvedBy 0 (cond b (refused 16 0) session′) ≡ resolvedBy room (cond b (refused 16 0) session′)
+      go : (b : Bool) → resolvedBy 0 (cond b (unresolved 16 0) session′) ≡ resolvedBy room (cond b (unresolved 16 0) session′)
       go true = refl
       go false = refl
 
@@ -402,16 +401,16 @@ module _ (text t : List ℕ) (d : ℕ) where
   session-same (Bad p) room = refl
   session-same Good room = go (ltb (records t) d)
     where
-      go : (b : Bool) → room ≡ listBy room (cond b (refused 16 0) session′)
+      go : (b : Bool) → room ≡ listBy room (cond b (unresolved 16 0) session′)
       go true = refl
       go false = refl
 
-  module _ (some′ : length text ≡ 0 → ⊥) (w : Where) (r : w ≡ targetIn text) where
+  module _ (some′ : length text ≡ 0 → ⊥) (w : Where) (r : w ≡ whereIn text) where
     pub no-answer : (room : ℕ) → w ≡ where′.No → resolved.Refused 12 0 ≡ resolveOf room text t d
-    no-answer room q = answer-as room (refused 12 0) (found-no t d text some′ w r q)
+    no-answer room q = answer-as room (unresolved 12 0) (found-no t d text some′ w r q)
 
     pub no-list : (room : List ℕ) → w ≡ where′.No → room ≡ resolveList room text t d
-    no-list room q = list-as room (refused 12 0) (found-no t d text some′ w r q)
+    no-list room q = list-as room (unresolved 12 0) (found-no t d text some′ w r q)
 
     pub session-answer : (room : ℕ) (x : Resolved) → w ≡ where′.Session → x ≡ resolvedBy 0 (inTree (checkTree t) t d session′) → x ≡ resolveOf room text t d
     session-answer room x q v = v ∙ session-room (checkTree t) room ∙ answer-as room (inTree (checkTree t) t d session′) (found-session t d text some′ w r q)

@@ -9,8 +9,8 @@ use lib.ListN.{length, getD, take, drop, length-drop}
 use lib.Seq.{getD-drop}
 use Rattle.text.specs.Bytes.{isLetter}
 use Rattle.text.specs.Lists.{allOf, anyOf}
-use Rattle.text.proofs.Basics.{or-l, or-r, no-case, either}
-use Rattle.tree.specs.Tree.{parentIn, tagLenIn, twin, holds, badForm, badRecord, records, checkFrom, checkTree, recordAt, parent, tag, number}
+use Rattle.text.proofs.Tests.{or-l, or-r, no-case, either}
+use Rattle.tree.specs.Tree.{parentIn, tagLenIn, twin, isTrue, badForm, badRecord, records, checkFrom, checkTree, recordAt, parent, tag, number}
 use Rattle.tree.specs.declared.Checked.{Checked}
 use Rattle.tree.specs.declared.Checked.the-variants.{Good, Bad}
 use Rattle.tree.proofs.CheckLaws.{any-nth}
@@ -20,7 +20,7 @@ not-bad true p x e = let z : _≡_ {A = ℕ} 0 1 = cc in absurd (omega arith)
 not-bad false p x e = (refl, e)
 
 -- where none of the tests holds, each fails
-pub none-at : (l : List Bool) (i : ℕ) → anyOf holds l ≡ false → getD l i false ≡ false
+pub none-at : (l : List Bool) (i : ℕ) → anyOf isTrue l ≡ false → getD l i false ≡ false
 none-at l i e = either (getD l i false) (λ y. no-case (sym (any-nth l i y) ∙ e)) (λ y. y)
 
 -- record j of n that follow the first k

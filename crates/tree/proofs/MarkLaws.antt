@@ -9,12 +9,13 @@ use native.Mathlib.Omega.{arith}
 use borrow.Author.Tests.{eqb-true, ltb-false}
 use lib.Dec.{eqb}
 use lib.ListN.{length, getD, take, drop, set, length-drop, length-set}
-use lib.Seq.{drop-drop, length-take-le, getD-take, getD-set-same}
-use Rattle.text.proofs.Basics.{and-l, and-r, either, no-case, same-eq}
+use lib.Seq.{drop-drop, length-take-le, getD-set-same}
+use Rattle.text.proofs.Tests.{and-l, and-r, either, no-case}
+use Rattle.text.proofs.SameTexts.{same-eq}
 use Rattle.text.proofs.Slices.{drop-take, part-from, getD-part}
 use Rattle.tree.specs.Tree.{parentIn, tagLenIn, tagIn, numberIn, sameNode, twinIn, twin, badForm}
 use Rattle.tree.specs.Marks.{mixOf, markOf, otherMarkOf, Marked}
-use Rattle.tree.proofs.CheckLaws.{lengths}
+use Rattle.tree.proofs.CheckLaws.{cut-byte, lengths}
 use Rattle.tree.proofs.GoodLaws.{none-at}
 
 -- what a record that is good by its own bytes has
@@ -59,14 +60,11 @@ module _ (a b : List ℕ) (h : 22 ≤ length a) (k : 22 ≤ length b) (one : 1 �
 
 -- and by its 22 bytes alone
 module _ (m : ℕ) (r : List ℕ) (h : 22 ≤ m) (short : tagLenIn (take m r) ≤ 16) where
-  at : (i : ℕ) → i < 22 → getD (take m r) i 0 ≡ getD r i 0
-  at i l = getD-take m r i 0 (omega arith)
-
   mix-cut : mixOf (take m r) ≡ mixOf r
   unfolding mixOf
   mix-cut =
-      let last = at (3 + tagLenIn (take m r)) (omega arith) ∙ ap (λ (n : ℕ). getD r (3 + n) 0) (at 3 (omega arith)) in
-      omega (arith, at 1 (omega arith), at 2 (omega arith), at 3 (omega arith), at 4 (omega arith), at 20 (omega arith), at 21 (omega arith), last)
+      let last = cut-byte m r h (3 + tagLenIn (take m r)) (omega arith) ∙ ap (λ (n : ℕ). getD r (3 + n) 0) (cut-byte m r h 3 (omega arith)) in
+      omega (arith, cut-byte m r h 1 (omega arith), cut-byte m r h 2 (omega arith), cut-byte m r h 3 (omega arith), cut-byte m r h 4 (omega arith), cut-byte m r h 20 (omega arith), cut-byte m r h 21 (omega arith), last)
 
 -- ---- no mark, no twin
 

@@ -10,12 +10,15 @@ use mathlib.Core.Option.{Option, none, some}
 use borrow.Author.Tests.{le-leb, lt-leb, le-ltb, ltb-true, ltb-false, eqb-true, eqb-false, eq-eqb, ne-eqb}
 use lib.Dec.{eqb, leb, ltb, eqb·suc-zero}
 use lib.ListN.{length, getD, take, drop, length-append}
-use lib.Seq.{take-append-seam, drop-append-seam, getD-append-add, getD-take, take-take, drop-drop, length-take-le}
+use lib.Seq.{take-append-seam, drop-append-seam, take-take, drop-drop, length-take-le}
 use Rattle.text.specs.Bytes.{bytes, sameBytes, isLetter, isDigit}
 use Rattle.text.specs.Lists.{allOf, anyOf, parts, each, between, isNil, runLen}
 use Rattle.text.specs.Decimal.{valueFrom, isDecimal, digits}
 use Rattle.text.specs.Room.{wrote}
-use Rattle.text.proofs.Basics.{and-l, and-r, and-in, or-l, or-r, or-in-l, or-in-r, no-case, neg-in, either, same-eq, same-refl, all-append, any-append, parts-between, all-none}
+use Rattle.text.proofs.Tests.{and-l, and-r, and-in, or-l, or-r, or-in-l, or-in-r, no-case, neg-in, either}
+use Rattle.text.proofs.SameTexts.{same-eq, same-refl}
+use Rattle.text.proofs.AllAny.{all-append, any-append, all-none}
+use Rattle.text.proofs.Parts.{parts-between}
 use Rattle.text.proofs.Classes.{letter-bounds, digit-no-letter, other-byte}
 use Rattle.text.proofs.Decimals.{digits-all, digits-some, digits-first, digits-two, value-two}
 use Rattle.text.proofs.Slices.{drop-take}
@@ -27,11 +30,12 @@ use Rattle.tree.specs.declared.Checked.the-variants.{Good}
 use Rattle.tree.specs.declared.Resolved.the-variants as resolved
 use Rattle.tree.specs.Tree.{parentIn, tagLenIn, tagIn, numberIn, sameNode, twinIn, twin, records, checkTree, recordAt, parent, tag, number}
 use Rattle.tree.specs.Path.{segment, pathUp, fullPath}
-use Rattle.tree.specs.Resolve.{nodesFrom, isTagged, isNamed, namedUnder, Found, nodes, refused, orNone, stepBy, along, inTree, orForm, foundOf, resolvedBy, listBy, resolveOf, resolveList}
+use Rattle.tree.specs.Resolve.{nodesFrom, taggedIn, namedIn, isNamed, namedUnder, Instances, nodes, unresolved, orNone, segmentStep, along, inTree, orForm, instancesOf, resolvedBy, listBy, resolveOf, resolveList}
 use Rattle.tree.specs.Ways.{waysUp, segmentsTo}
+use Rattle.tree.proofs.CheckLaws.{cut-byte}
 use Rattle.tree.proofs.GoodLaws.{good-node, good-length, byte-of}
 use Rattle.tree.proofs.UpLaws.{length-tag}
-use Rattle.forms.proofs.TargetBytes.{nil-segment}
+use Rattle.forms.proofs.SegmentBytes.{nil-segment}
 
 -- ---- no two nodes of a good tree are the same
 
@@ -47,13 +51,10 @@ twin-none (suc n) e r h (suc j) lt =
 
 -- a record is what its 22 bytes say
 module _ (m : ℕ) (r : List ℕ) (h : 22 ≤ m) (short : tagLenIn r ≤ 16) where
-  at : (i : ℕ) → i < 22 → getD (take m r) i 0 ≡ getD r i 0
-  at i l = getD-take m r i 0 (omega arith)
-
   tag-cut : tagIn (take m r) ≡ tagIn r
   unfolding tagIn
   tag-cut =
-      ap (λ (n : ℕ). take n (drop 4 (take m r))) (at 3 (omega arith))
+      ap (λ (n : ℕ). take n (drop 4 (take m r))) (cut-byte m r h 3 (omega arith))
       ∙ ap (take (tagLenIn r)) (drop-take 4 m r)
       ∙ take-take (tagLenIn r) (m - 4) (drop 4 r) (omega arith)
 
@@ -61,7 +62,7 @@ module _ (m : ℕ) (r : List ℕ) (h : 22 ≤ m) (short : tagLenIn r ≤ 16) whe
   unfolding sameNode
   same-cut b =
       ap (λ (s : List ℕ). eqb (parentIn (take m r)) (parentIn b) && (eqb (numberIn (take m r)) (numberIn b) && sameBytes s (tagIn b))) tag-cut
-      ∙ rw (at 1 (omega arith), at 2 (omega arith), at 20 (omega arith), at 21 (omega arith))
+      ∙ rw (cut-byte m r h 1 (omega arith), cut-byte m r h 2 (omega arith), cut-byte m r h 20 (omega arith), cut-byte m r h 21 (omega arith))
 
 module _ (t : List ℕ) (good : checkTree t ≡ Good) where
   -- an earlier node is another node
@@ -79,7 +80,7 @@ module _ (t : List ℕ) (good : checkTree t ≡ Good) where
 
   -- the same parent, tag and number: one and the same node
   alike : (i k : ℕ) → isNamed t (parent t k) (tag t k) (number t k) i ≡ true → (sameNode (recordAt t i) (recordAt t k) ≡ true) × (sameNode (recordAt t k) (recordAt t i) ≡ true)
-  unfolding isNamed isTagged sameNode
+  unfolding isNamed namedIn taggedIn sameNode
   alike i k e =
       let a = and-l (eqb (number t i) (number t k)) (eqb (parent t i) (parent t k) && sameBytes (tag t i) (tag t k)) e in
       let b = and-r (eqb (number t i) (number t k)) (eqb (parent t i) (parent t k) && sameBytes (tag t i) (tag t k)) e in
@@ -97,7 +98,7 @@ module _ (t : List ℕ) (good : checkTree t ≡ Good) where
       le-antisymm x y h k = omega arith
 
   itself : (k : ℕ) → isNamed t (parent t k) (tag t k) (number t k) k ≡ true
-  unfolding isNamed isTagged
+  unfolding isNamed namedIn taggedIn
   itself k = simp (eq-eqb (number t k) (number t k) refl, eq-eqb (parent t k) (parent t k) refl, same-refl (tag t k))
 
 -- just one passes the test
@@ -154,16 +155,11 @@ module _ (a : List ℕ) (n : ℕ) (some′ : 1 ≤ length a) (short : length a �
   rest-is : drop (tagLen (a ++ digits n)) (a ++ digits n) ≡ digits n
   rest-is = rw tag-is (drop-append-seam a (digits n))
 
-  head-is : getD (a ++ digits n) (tagLen (a ++ digits n)) 0 ≡ getD (digits n) 0 0
-  head-is =
-      let z : length a ≡ length a + 0 = omega arith in
-      rw tag-is (ap (λ (i : ℕ). getD (a ++ digits n) i 0) z ∙ getD-append-add a (digits n) 0 0)
-
   numbered : isNumbered (a ++ digits n) ≡ true
   unfolding isNumbered
   numbered =
       let d : isDecimal 65535 (drop (tagLen (a ++ digits n)) (a ++ digits n)) ≡ true = ap (isDecimal 65535) rest-is ∙ digits-two n most in
-      let h : eqb (getD (a ++ digits n) (tagLen (a ++ digits n)) 0) 48 ≡ false = ap (λ (b : ℕ). eqb b 48) head-is ∙ ne-eqb (getD (digits n) 0 0) 48 (λ z. one (digits-first n (omega arith) z)) in
+      let h : eqb (getD (drop (tagLen (a ++ digits n)) (a ++ digits n)) 0 0) 48 ≡ false = ap (λ (r : List ℕ). eqb (getD r 0 0) 48) rest-is ∙ ne-eqb (getD (digits n) 0 0) 48 (λ z. one (digits-first n (omega arith) z)) in
       let l : isTagLen (tagLen (a ++ digits n)) ≡ true = ap isTagLen tag-is ∙ simp (le-leb 1 (length a) some′, le-leb (length a) 16 short) in
       simp (l, d, h)
 
@@ -249,7 +245,7 @@ module _ (t : List ℕ) (good : checkTree t ≡ Good) (byte : (i : ℕ) → getD
     pub step-to : (p : ℕ) (rest : List (List ℕ)) → along t (parent t k) p (segment t k ∷ rest) ≡ along t k (p + length (segment t k) + 1) rest
     unfolding along
     step-to p rest =
-        ap (λ (o : Option Segment). stepBy t (parent t k) p o (λ m. along t m (p + length (segment t k) + 1) rest)) node-segment
+        ap (λ (o : Option Segment). segmentStep t (parent t k) p o (λ m. along t m (p + length (segment t k) + 1) rest)) node-segment
         ∙ ap (λ (l : List ℕ). orNone p l (λ m ms. along t m (p + length (segment t k) + 1) rest)) (named-alone t good k one here)
 
   along-ways : (f k : ℕ) → k ≤ f → k ≤ records t → (p : ℕ) (rest : List (List ℕ)) → along t 0 p (waysUp f t k ++ rest) ≡ along t k (p + length (each 47 (waysUp f t k))) rest
@@ -320,8 +316,8 @@ full-ways : (t : List ℕ) (k : ℕ) → 1 ≤ k → fullPath t k ≡ each 47 (s
 unfolding fullPath segmentsTo
 full-ways t k one = rw (ne-eqb k 0 (λ z. omega arith)) (path-ways t k k)
 
-found-each : (s : List ℕ) (ss : List (List ℕ)) (t : List ℕ) (d : ℕ) → foundOf (each 47 (s ∷ ss)) t d ≡ orForm (targetOf (each 47 (s ∷ ss))) t d
-unfolding foundOf each
+found-each : (s : List ℕ) (ss : List (List ℕ)) (t : List ℕ) (d : ℕ) → instancesOf (each 47 (s ∷ ss)) t d ≡ orForm (targetOf (each 47 (s ∷ ss))) t d
+unfolding instancesOf each
 found-each s ss t d = refl
 
 no-ways : (t : List ℕ) (i : ℕ) → i ≡ 0 → length (segmentsTo t i) ≡ 0
@@ -329,7 +325,7 @@ unfolding segmentsTo waysUp
 no-ways t i z = ap (λ (j : ℕ). length (waysUp j t j)) z
 
 module _ (t : List ℕ) (good : checkTree t ≡ Good) (byte : (i : ℕ) → getD t i 0 ≤ 255) (d : ℕ) (default : d ≤ records t) (k : ℕ) (here : k ≤ records t) where
-  in-good : (f : Found) → inTree (checkTree t) t d f ≡ f
+  in-good : (f : Instances) → inTree (checkTree t) t d f ≡ f
   in-good f = ap (λ (c : Checked). inTree c t d f) good ∙ simp (le-ltb (records t) d default)
 
   all-form : allOf isSegment (segmentsTo t k) ≡ true
@@ -341,11 +337,11 @@ module _ (t : List ℕ) (good : checkTree t ≡ Good) (byte : (i : ℕ) → getD
   all-parted = ways-all t good byte (λ w. not (anyOf isSeparator w)) (λ j x y. node-solid t good byte j x y) k k here
 
   found-ways : (s : List ℕ) (ss : List (List ℕ)) → 1 ≤ k → segmentsTo t k ≡ s ∷ ss
-      → foundOf (fullPath t k) t d ≡ orForm (cond (leb (length (segmentsTo t k)) 16) (some (path true (segmentsTo t k))) none) t d
+      → instancesOf (fullPath t k) t d ≡ orForm (cond (leb (length (segmentsTo t k)) 16) (some (path true (segmentsTo t k))) none) t d
   found-ways s ss one e =
       let a : allOf isSegment (s ∷ ss) ≡ true = ap (allOf isSegment) (sym e) ∙ all-form in
       let b : allOf (λ w. not (anyOf isSeparator w)) (s ∷ ss) ≡ true = ap (allOf (λ w. not (anyOf isSeparator w))) (sym e) ∙ all-parted in
-      ap (λ (l : List ℕ). foundOf l t d) (full-ways t k one ∙ ap (each 47) e)
+      ap (λ (l : List ℕ). instancesOf l t d) (full-ways t k one ∙ ap (each 47) e)
       ∙ found-each s ss t d
       ∙ ap (λ (o : Option Target). orForm o t d) (target-each s ss a b)
       ∙ ap (λ (l : List (List ℕ)). orForm (cond (leb (length l) 16) (some (path true l)) none) t d) (sym e)
@@ -354,18 +350,18 @@ module _ (t : List ℕ) (good : checkTree t ≡ Good) (byte : (i : ℕ) → getD
   unfolding segmentsTo along
   along-to = ap (along t 0 1) (sym (append-nil (waysUp k t k))) ∙ along-ways t good byte k k (omega arith) here 1 []
 
-  slash-found : foundOf (fullPath t 0) t d ≡ nodes (0 ∷ [])
-  unfolding fullPath foundOf targetOf pathOf sessionName bytes sameBytes along
+  slash-found : instancesOf (fullPath t 0) t d ≡ nodes (0 ∷ [])
+  unfolding fullPath instancesOf targetOf pathOf sessionName bytes sameBytes along
   slash-found = in-good (nodes (0 ∷ []))
 
-  root-found : k ≡ 0 → foundOf (fullPath t k) t d ≡ nodes (k ∷ [])
-  root-found z = ap (λ (i : ℕ). foundOf (fullPath t i) t d) z ∙ slash-found ∙ ap (λ (i : ℕ). nodes (i ∷ [])) (sym z)
+  root-found : k ≡ 0 → instancesOf (fullPath t k) t d ≡ nodes (k ∷ [])
+  root-found z = ap (λ (i : ℕ). instancesOf (fullPath t i) t d) z ∙ slash-found ∙ ap (λ (i : ℕ). nodes (i ∷ [])) (sym z)
 
   -- a full path resolves to its node alone
-  pub path-found : length (segmentsTo t k) ≤ 16 → foundOf (fullPath t k) t d ≡ nodes (k ∷ [])
+  pub path-found : length (segmentsTo t k) ≤ 16 → instancesOf (fullPath t k) t d ≡ nodes (k ∷ [])
   path-found few = either (eqb k 0) (λ z. root-found (eqb-true k 0 z)) (λ z. go (eqb-false k 0 z) (segmentsTo t k) refl)
     where
-      go : (k ≡ 0 → ⊥) → (l : List (List ℕ)) → segmentsTo t k ≡ l → foundOf (fullPath t k) t d ≡ nodes (k ∷ [])
+      go : (k ≡ 0 → ⊥) → (l : List (List ℕ)) → segmentsTo t k ≡ l → instancesOf (fullPath t k) t d ≡ nodes (k ∷ [])
       go n [] e = no-case (sym (ap isNil e) ∙ ways-some t k (omega arith))
       go n (s ∷ ss) e =
           found-ways s ss (omega arith) e
@@ -374,10 +370,10 @@ module _ (t : List ℕ) (good : checkTree t ≡ Good) (byte : (i : ℕ) → getD
           ∙ along-to
 
   -- a node deeper than 16 has a full path that is not of a target's form
-  pub path-deep : 16 < length (segmentsTo t k) → foundOf (fullPath t k) t d ≡ refused 12 0
+  pub path-deep : 16 < length (segmentsTo t k) → instancesOf (fullPath t k) t d ≡ unresolved 12 0
   path-deep many = go (segmentsTo t k) refl
     where
-      go : (l : List (List ℕ)) → segmentsTo t k ≡ l → foundOf (fullPath t k) t d ≡ refused 12 0
+      go : (l : List (List ℕ)) → segmentsTo t k ≡ l → instancesOf (fullPath t k) t d ≡ unresolved 12 0
       go [] e = absurd (omega (arith, ap length e))
       go (s ∷ ss) e =
           found-ways s ss (either (eqb k 0) (λ z. let w = no-ways t k (eqb-true k 0 z) in omega arith) (λ z. let n = eqb-false k 0 z in omega arith)) e

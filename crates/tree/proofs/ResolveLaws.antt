@@ -12,12 +12,12 @@ use lib.Dec.{eqb, leb, ltb}
 use lib.ListN.{length}
 use Rattle.text.specs.Bytes.{bytes, sameBytes}
 use Rattle.text.specs.Lists.{allOf}
-use Rattle.text.proofs.Basics.{and-l, and-r, and-in, no-case}
+use Rattle.text.proofs.Tests.{and-l, and-r, and-in, no-case}
 use Rattle.forms.specs.Targets.{Segment, here, above, child, children, segmentOf, Target, session, path, targetOf}
 use Rattle.tree.specs.declared.Checked.{Checked}
 use Rattle.tree.specs.declared.Checked.the-variants.{Good, Bad}
-use Rattle.tree.specs.Tree.{records, checkTree, parent, tag, number}
-use Rattle.tree.specs.Resolve.{nodesFrom, isTagged, isNamed, taggedUnder, namedUnder, Found, session′, nodes, refused, orNone, stepBy, along, inTree, from, orForm, foundOf}
+use Rattle.tree.specs.Tree.{records, checkTree, recordAt, parent, tag, number}
+use Rattle.tree.specs.Resolve.{nodesFrom, taggedIn, namedIn, isTagged, isNamed, taggedUnder, namedUnder, Instances, session′, nodes, unresolved, orNone, segmentStep, along, inTree, from, orForm, instancesOf}
 use Rattle.tree.specs.Ways.{ascends}
 use Rattle.tree.proofs.GoodLaws.{good-node}
 
@@ -91,7 +91,7 @@ module _ (t : List ℕ) (n : ℕ) (a : List ℕ) where
   -- and a starred segment gives just these
   pub starred-gives : (p : ℕ) (s : List ℕ) (ss : List (List ℕ)) (ms : List ℕ) → segmentOf s ≡ some (children a) → along t n p (s ∷ ss) ≡ nodes ms → ms ≡ taggedUnder t n a
   unfolding along
-  starred-gives p s ss ms e h = go (taggedUnder t n a) (sym (ap (λ (o : Option Segment). stepBy t n p o (λ m. along t m (p + length s + 1) ss)) e) ∙ h)
+  starred-gives p s ss ms e h = go (taggedUnder t n a) (sym (ap (λ (o : Option Segment). segmentStep t n p o (λ m. along t m (p + length s + 1) ss)) e) ∙ h)
     where
       go : (l : List ℕ) → orNone p l (λ m ms. nodes (m ∷ ms)) ≡ nodes ms → ms ≡ l
       go [] q = absurd (let z : _≡_ {A = ℕ} 0 1 = cc in omega arith)
@@ -99,7 +99,7 @@ module _ (t : List ℕ) (n : ℕ) (a : List ℕ) where
 
 -- a child with this tag has that parent and that tag
 pub tagged-parent : (t : List ℕ) (n : ℕ) (a : List ℕ) (k : ℕ) → isTagged t n a k ≡ true → parent t k ≡ n
-unfolding isTagged
+unfolding isTagged taggedIn
 tagged-parent t n a k e = eqb-true (parent t k) n (and-l (eqb (parent t k) n) (sameBytes (tag t k) a) e)
 
 -- ---- `..` after a child leads back
@@ -109,8 +109,8 @@ first-passes : (f : ℕ → Bool) (k m j : ℕ) (l : List ℕ) → nodesFrom f k
 first-passes f k m j l e = nodes-each f k m j (rw e (List·Memᴰ·head refl))
 
 named-parent : (t : List ℕ) (n : ℕ) (a : List ℕ) (i k : ℕ) → isNamed t n a i k ≡ true → parent t k ≡ n
-unfolding isNamed
-named-parent t n a i k e = tagged-parent t n a k (and-r (eqb (number t k) i) (isTagged t n a k) e)
+unfolding isNamed namedIn isTagged
+named-parent t n a i k e = tagged-parent t n a k (and-r (eqb (number t k) i) (taggedIn (recordAt t k) n a) e)
 
 dots-above : segmentOf (bytes "..") ≡ some above
 unfolding segmentOf bytes sameBytes
@@ -127,10 +127,10 @@ child-back t n p s a i m ms rest e h =
     let w = first-passes (isNamed t n a i) 1 (records t) m ms h in
     let one = w .0 in
     let q = p + length s + 1 in
-    ap (λ (o : Option Segment). stepBy t n p o (λ k. along t k q (bytes ".." ∷ rest))) e
+    ap (λ (o : Option Segment). segmentStep t n p o (λ k. along t k q (bytes ".." ∷ rest))) e
     ∙ ap (λ (l : List ℕ). orNone p l (λ k ks. along t k q (bytes ".." ∷ rest))) h
-    ∙ ap (λ (o : Option Segment). stepBy t m q o (λ k. along t k (q + length (bytes "..") + 1) rest)) dots-above
-    ∙ ap (λ (b : Bool). cond b (refused 17 q) (along t (parent t m) (q + length (bytes "..") + 1) rest)) (ne-eqb m 0 (λ z. omega arith))
+    ∙ ap (λ (o : Option Segment). segmentStep t m q o (λ k. along t k (q + length (bytes "..") + 1) rest)) dots-above
+    ∙ ap (λ (b : Bool). cond b (unresolved 17 q) (along t (parent t m) (q + length (bytes "..") + 1) rest)) (ne-eqb m 0 (λ z. omega arith))
     ∙ ap (λ (k : ℕ). along t k (q + length (bytes "..") + 1) rest) (named-parent t n a i m (w .2))
     ∙ ap (λ (k : ℕ). along t n (q + k + 1) rest) dots-length
 
@@ -149,17 +149,17 @@ nodes-inside t f k (suc m) h = go (f k) (nodes-inside t f (suc k) m (omega arith
     go false ih = ih
 
 module _ (t : List ℕ) (good : checkTree t ≡ Good) where
-  Inside : Found → Type 0
+  Inside : Instances → Type 0
   Inside f = (ms : List ℕ) → f ≡ nodes ms → allOf (inside t) ms ≡ true
 
-  refused-inside : (n p : ℕ) (ms : List ℕ) → refused n p ≡ nodes ms → allOf (inside t) ms ≡ true
+  refused-inside : (n p : ℕ) (ms : List ℕ) → unresolved n p ≡ nodes ms → allOf (inside t) ms ≡ true
   refused-inside n p ms e = absurd (let z : _≡_ {A = ℕ} 0 1 = cc in omega arith)
 
   one-inside : (n : ℕ) (ms : List ℕ) → n ≤ records t → nodes (n ∷ []) ≡ nodes ms → allOf (inside t) ms ≡ true
   unfolding allOf
   one-inside n ms h e = let z : n ∷ [] ≡ ms = cc in ap (allOf (inside t)) (sym z) ∙ simp (le-leb n (records t) h)
 
-  child-inside : (n p : ℕ) (a : List ℕ) (i : ℕ) (f : ℕ → Found) (ms : List ℕ)
+  child-inside : (n p : ℕ) (a : List ℕ) (i : ℕ) (f : ℕ → Instances) (ms : List ℕ)
       → ((m : ℕ) → m ≤ records t → f m ≡ nodes ms → allOf (inside t) ms ≡ true) → orNone p (namedUnder t n a i) (λ m rest. f m) ≡ nodes ms → allOf (inside t) ms ≡ true
   unfolding namedUnder
   child-inside n p a i f ms ih e = go (nodesFrom (isNamed t n a i) 1 (records t)) refl e
@@ -179,11 +179,11 @@ module _ (t : List ℕ) (good : checkTree t ≡ Good) where
       go [] y q = refused-inside 18 p ms q
       go (m ∷ l) y q = let z : m ∷ l ≡ ms = cc in ap (allOf (inside t)) (sym z) ∙ y
 
-  above-inside : (n p : ℕ) (f : ℕ → Found) (ms : List ℕ) → n ≤ records t → ((m : ℕ) → m ≤ records t → f m ≡ nodes ms → allOf (inside t) ms ≡ true)
-      → cond (eqb n 0) (refused 17 p) (f (parent t n)) ≡ nodes ms → allOf (inside t) ms ≡ true
+  above-inside : (n p : ℕ) (f : ℕ → Instances) (ms : List ℕ) → n ≤ records t → ((m : ℕ) → m ≤ records t → f m ≡ nodes ms → allOf (inside t) ms ≡ true)
+      → cond (eqb n 0) (unresolved 17 p) (f (parent t n)) ≡ nodes ms → allOf (inside t) ms ≡ true
   above-inside n p f ms h ih e = go (eqb n 0) refl e
     where
-      go : (b : Bool) → eqb n 0 ≡ b → cond b (refused 17 p) (f (parent t n)) ≡ nodes ms → allOf (inside t) ms ≡ true
+      go : (b : Bool) → eqb n 0 ≡ b → cond b (unresolved 17 p) (f (parent t n)) ≡ nodes ms → allOf (inside t) ms ≡ true
       go true y q = refused-inside 17 p ms q
       go false y q =
           let z = eqb-false n 0 y in
@@ -191,8 +191,8 @@ module _ (t : List ℕ) (good : checkTree t ≡ Good) where
           let l = g .lower in
           ih (parent t n) (omega arith) q
 
-  step-inside : (n p : ℕ) (o : Option Segment) (f : ℕ → Found) (ms : List ℕ) → n ≤ records t → ((m : ℕ) → m ≤ records t → f m ≡ nodes ms → allOf (inside t) ms ≡ true)
-      → stepBy t n p o f ≡ nodes ms → allOf (inside t) ms ≡ true
+  step-inside : (n p : ℕ) (o : Option Segment) (f : ℕ → Instances) (ms : List ℕ) → n ≤ records t → ((m : ℕ) → m ≤ records t → f m ≡ nodes ms → allOf (inside t) ms ≡ true)
+      → segmentStep t n p o f ≡ nodes ms → allOf (inside t) ms ≡ true
   step-inside n p none f ms h ih e = refused-inside 12 0 ms e
   step-inside n p (some here) f ms h ih e = ih n h e
   step-inside n p (some above) f ms h ih e = above-inside n p f ms h ih e
@@ -205,11 +205,11 @@ module _ (t : List ℕ) (good : checkTree t ≡ Good) where
   along-inside (s ∷ ss) n p ms h e = step-inside n p (segmentOf s) (λ m. along t m (p + length s + 1) ss) ms h (λ m k q. along-inside ss m (p + length s + 1) ms k q) e
 
 -- what lies in a tree: the tree is good and its default target is a node
-in-tree : (t : List ℕ) (d : ℕ) (f : Found) (ms : List ℕ) (c : Checked) → inTree c t d f ≡ nodes ms → (c ≡ Good) × (d ≤ records t) × (f ≡ nodes ms)
+in-tree : (t : List ℕ) (d : ℕ) (f : Instances) (ms : List ℕ) (c : Checked) → inTree c t d f ≡ nodes ms → (c ≡ Good) × (d ≤ records t) × (f ≡ nodes ms)
 in-tree t d f ms (Bad p) e = absurd (let z : _≡_ {A = ℕ} 0 1 = cc in omega arith)
 in-tree t d f ms Good e = go (ltb (records t) d) refl e
   where
-    go : (b : Bool) → ltb (records t) d ≡ b → cond b (refused 16 0) f ≡ nodes ms → (Good ≡ Good) × (d ≤ records t) × (f ≡ nodes ms)
+    go : (b : Bool) → ltb (records t) d ≡ b → cond b (unresolved 16 0) f ≡ nodes ms → (Good ≡ Good) × (d ≤ records t) × (f ≡ nodes ms)
     go true y q = absurd (let z : _≡_ {A = ℕ} 0 1 = cc in omega arith)
     go false y q = (refl, ltb-false (records t) d y, q)
 
@@ -222,7 +222,7 @@ form-inside : (t : List ℕ) (d : ℕ) (o : Option Target) (ms : List ℕ) → o
 form-inside t d none ms e = absurd (let z : _≡_ {A = ℕ} 0 1 = cc in omega arith)
 form-inside t d (some g) ms e = from-inside t d g ms e
 
-pub found-inside : (text t : List ℕ) (d : ℕ) (ms : List ℕ) → foundOf text t d ≡ nodes ms → allOf (inside t) ms ≡ true
-unfolding foundOf
+pub found-inside : (text t : List ℕ) (d : ℕ) (ms : List ℕ) → instancesOf text t d ≡ nodes ms → allOf (inside t) ms ≡ true
+unfolding instancesOf
 found-inside [] t d ms e = let w = in-tree t d (nodes (d ∷ [])) ms (checkTree t) e in one-inside t (w .0) d ms (w .1) (w .2)
 found-inside (b ∷ s) t d ms e = form-inside t d (targetOf (b ∷ s)) ms e

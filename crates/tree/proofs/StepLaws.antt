@@ -4,16 +4,15 @@ use Prim.Native.Nat.{ℕ, suc, _+_, _-_, _*_, _/_, _<_, _≤_}
 use native.Mathlib.Numerals.{add-one}
 use native.Mathlib.Omega.{arith}
 use mathlib.Core.List.{List, [], _∷_, _++_}
-use mathlib.Core.Bool.{Bool, true, false, cond, _&&_}
+use mathlib.Core.Bool.{Bool, true, false, cond}
 use borrow.Author.Tests.{eq-eqb, ne-eqb}
-use lib.Dec.{eqb}
 use lib.ListN.{length, take, drop}
 use Rattle.text.specs.Bytes.{sameBytes}
 use Rattle.text.proofs.Slices.{part-from, part-between}
 use Rattle.tree.specs.declared.Checked.the-variants.{Good}
-use Rattle.tree.specs.Tree.{parentIn, numberIn, tagLenIn, tagIn, records, checkTree, recordAt, number}
-use Rattle.tree.specs.Resolve.{nodesFrom, isTagged, isNamed, namedUnder}
-use Rattle.tree.specs.Steps.{taggedIn, namedIn, firstOf, kept}
+use Rattle.tree.specs.Tree.{parentIn, numberIn, tagLenIn, tagIn, records, checkTree, recordAt}
+use Rattle.tree.specs.Resolve.{nodesFrom, taggedIn, namedIn, isTagged, isNamed, namedUnder}
+use Rattle.tree.specs.Steps.{firstOf, kept}
 use Rattle.tree.proofs.GoodLaws.{good-node, good-whole}
 
 -- ---- one record
@@ -50,14 +49,12 @@ module _ (t : List ℕ) (k n p : ℕ) (good : checkTree t ≡ Good) (e : n ≡ l
       omega arith
 
   pub tagged-at : (m : ℕ) (a : List ℕ) → taggedIn (take (length t - p) (drop p t)) m a ≡ isTagged t m a (suc k)
-  unfolding isTagged taggedIn
-  tagged-at m a = ap (λ (r : List ℕ). eqb (parentIn r) m && sameBytes (tagIn r) a) (sym next-record)
+  unfolding isTagged
+  tagged-at m a = ap (λ (r : List ℕ). taggedIn r m a) (sym next-record)
 
   pub named-at : (m : ℕ) (a : List ℕ) (i : ℕ) → namedIn (take (length t - p) (drop p t)) m a i ≡ isNamed t m a i (suc k)
-  unfolding isNamed namedIn
-  named-at m a i =
-      ap (λ (r : List ℕ). eqb (numberIn r) i && taggedIn r m a) (sym next-record)
-      ∙ ap (λ (b : Bool). eqb (number t (suc k)) i && b) (ap (λ (r : List ℕ). taggedIn r m a) next-record ∙ tagged-at m a)
+  unfolding isNamed
+  named-at m a i = ap (λ (r : List ℕ). namedIn r m a i) (sym next-record)
 
 -- ---- some nodes
 

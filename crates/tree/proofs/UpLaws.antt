@@ -23,21 +23,22 @@ use Rattle.tree.proofs.GoodLaws.{good-node, good-whole, byte-of}
 
 -- ---- the fields, as the code reads them
 
-module _ (t : List ℕ) (k r : ℕ) where
-  pub parent-read : r ≡ 256 * getD t (22 * (k - 1) + 1) 0 + getD t (22 * (k - 1) + 2) 0 → r ≡ parent t k
-  parent-read h = omega (arith, byte-of t k (22 * (k - 1)) refl 1, byte-of t k (22 * (k - 1)) refl 2)
+-- the record of node k starts at p
+module _ (t : List ℕ) (k r p : ℕ) (e : p ≡ 22 * (k - 1)) where
+  pub parent-read : r ≡ 256 * getD t (p + 1) 0 + getD t (p + 2) 0 → r ≡ parent t k
+  parent-read h = omega (arith, byte-of t k p e 1, byte-of t k p e 2)
 
-  pub tag-read : r ≡ 256 * 0 + getD t (22 * (k - 1) + 3) 0 → r ≡ tagLenIn (recordAt t k)
-  tag-read h = omega (arith, byte-of t k (22 * (k - 1)) refl 3)
+  pub tag-read : r ≡ 256 * 0 + getD t (p + 3) 0 → r ≡ tagLenIn (recordAt t k)
+  tag-read h = omega (arith, byte-of t k p e 3)
 
-  pub number-read : r ≡ 256 * getD t (22 * (k - 1) + 20) 0 + getD t (22 * (k - 1) + 21) 0 → r ≡ number t k
-  number-read h = omega (arith, byte-of t k (22 * (k - 1)) refl 20, byte-of t k (22 * (k - 1)) refl 21)
+  pub number-read : r ≡ 256 * getD t (p + 20) 0 + getD t (p + 21) 0 → r ≡ number t k
+  number-read h = omega (arith, byte-of t k p e 20, byte-of t k p e 21)
 
   module _ (good : checkTree t ≡ Good) (one : 1 ≤ k) (here : k ≤ records t) where
-    pub parent-lower : r ≡ 256 * getD t (22 * (k - 1) + 1) 0 + getD t (22 * (k - 1) + 2) 0 → r < k
+    pub parent-lower : r ≡ 256 * getD t (p + 1) 0 + getD t (p + 2) 0 → r < k
     parent-lower h = let g = good-node t good k one here in omega (arith, parent-read h, g .lower)
 
-    pub tag-short : r ≡ 256 * 0 + getD t (22 * (k - 1) + 3) 0 → r ≤ 16
+    pub tag-short : r ≡ 256 * 0 + getD t (p + 3) 0 → r ≤ 16
     tag-short h = let g = good-node t good k one here in omega (arith, tag-read h, g .short)
 
 pub node-whole : (t : List ℕ) (k : ℕ) → checkTree t ≡ Good → 1 ≤ k → k ≤ records t → 22 * k ≤ length t
@@ -69,22 +70,22 @@ module _ (t : List ℕ) (k : ℕ) (good : checkTree t ≡ Good) (one : 1 ≤ k) 
   pub segment-place : (at n m w : ℕ) → n ≡ tagLenIn (recordAt t k) → m ≡ number t k → w ≡ length (digits m) → at + 1 + n + w ≡ at + (1 + length (segment t k))
   segment-place at n m w e f g = let u : w ≡ width (number t k) = g ∙ length-digits m ∙ ap width f in omega (arith, length-segment)
 
-  tag-part : (n : ℕ) → n ≡ tagLenIn (recordAt t k) → take (22 * (k - 1) + 4 + n - (22 * (k - 1) + 4)) (drop (22 * (k - 1) + 4) t) ≡ tag t k
+  tag-part : (p n : ℕ) → p ≡ 22 * (k - 1) → n ≡ tagLenIn (recordAt t k) → take (p + 4 + n - (p + 4)) (drop (p + 4) t) ≡ tag t k
   unfolding tagIn recordAt
-  tag-part n e =
-      part-between t (22 * (k - 1) + 4) n
-      ∙ ap (λ (l : List ℕ). take n l) (sym (drop-drop 4 (22 * (k - 1)) t))
+  tag-part p n at e =
+      part-between t (p + 4) n
+      ∙ ap (λ (l : List ℕ). take n l) (sym (drop-drop 4 p t) ∙ ap (λ (i : ℕ). drop 4 (drop i t)) at)
       ∙ ap (λ (i : ℕ). take i (drop 4 (drop (22 * (k - 1)) t))) e
 
   -- the separator, the tag and the number, each stored after the other
-  pub segment-put : (d x y z : List ℕ) (at n m : ℕ) → n ≡ tagLenIn (recordAt t k) → m ≡ number t k → x ≡ set d at 47
-      → y ≡ sets x (at + 1) (take (22 * (k - 1) + 4 + n - (22 * (k - 1) + 4)) (drop (22 * (k - 1) + 4) t)) → z ≡ sets y (at + 1 + n) (digits m)
+  pub segment-put : (d x y z : List ℕ) (at p n m : ℕ) → p ≡ 22 * (k - 1) → n ≡ tagLenIn (recordAt t k) → m ≡ number t k → x ≡ set d at 47
+      → y ≡ sets x (at + 1) (take (p + 4 + n - (p + 4)) (drop (p + 4) t)) → z ≡ sets y (at + 1 + n) (digits m)
       → z ≡ sets d at (47 ∷ segment t k)
   unfolding segment
-  segment-put d x y z at n m e f u v w =
+  segment-put d x y z at p n m s e f u v w =
       let q : at + 1 + n ≡ suc at + length (tag t k) = omega (arith, length-tag) in
       let y′ : y ≡ sets (set d at 47) (suc at) (tag t k) =
-      v ∙ ap (λ (l : List ℕ). sets x (at + 1) l) (tag-part n e) ∙ ap (λ (l : List ℕ). sets l (at + 1) (tag t k)) u ∙ ap (λ (i : ℕ). sets (set d at 47) i (tag t k)) (add-one at) in
+      v ∙ ap (λ (l : List ℕ). sets x (at + 1) l) (tag-part p n s e) ∙ ap (λ (l : List ℕ). sets l (at + 1) (tag t k)) u ∙ ap (λ (i : ℕ). sets (set d at 47) i (tag t k)) (add-one at) in
       w ∙ ap (λ (i : ℕ). sets y i (digits m)) q ∙ ap (λ (l : List ℕ). sets l (suc at + length (tag t k)) (digits m)) y′
       ∙ ap (λ (i : ℕ). sets (sets (set d at 47) (suc at) (tag t k)) (suc at + length (tag t k)) (digits i)) f
       ∙ sets-append (tag t k) (digits (number t k)) (set d at 47) (suc at)

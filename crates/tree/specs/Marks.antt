@@ -5,7 +5,8 @@ use mathlib.Core.Path.{_≡_}
 use mathlib.Core.List.{List}
 use mathlib.Core.Bool.{Bool, true, false}
 use lib.ListN.{length, getD, drop}
-use Rattle.tree.specs.Tree.{be16, parentIn, tagLenIn, numberIn}
+use Rattle.text.specs.Room.{be16}
+use Rattle.tree.specs.Tree.{parentIn, tagLenIn, numberIn}
 
 -- a node's parent, its number, its tag's length, and its tag's first and last letter in one number; odd factors spread it over the table
 abbrev pub mixed : ℕ → ℕ → ℕ → ℕ → ℕ

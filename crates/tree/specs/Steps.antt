@@ -1,10 +1,9 @@
 -- Resolving as the code goes: one record, one segment and one answer at a time. proofs/StepLaws, FollowLaws and GiveLaws have it that these are those of specs/Resolve.
 use Prim.Native.Nat.{ℕ, _+_, _≤_}
 use mathlib.Core.List.{List, [], _∷_}
-use mathlib.Core.Bool.{Bool, cond, _&&_}
+use mathlib.Core.Bool.{Bool, cond}
 use lib.ListN.{length, take, drop}
-use lib.Dec.{eqb, leb, ltb}
-use Rattle.text.specs.Bytes.{sameBytes}
+use lib.Dec.{leb, ltb}
 use Rattle.text.specs.Lists.{parts}
 use Rattle.text.specs.declared.Verdict.{Verdict}
 use Rattle.text.specs.declared.Verdict.the-variants.{Fine, Flawed}
@@ -13,15 +12,8 @@ use Rattle.tree.specs.declared.Checked.{Checked}
 use Rattle.tree.specs.declared.Checked.the-variants.{Good, Bad}
 use Rattle.tree.specs.declared.Spot.{Spot}
 use Rattle.tree.specs.declared.Spot.the-variants.{Node, Tagged, Lost}
-use Rattle.tree.specs.Tree.{parentIn, numberIn, tagIn, records, checkTree}
-use Rattle.tree.specs.Resolve.{taggedUnder, Found, nodes, refused, orNone, along}
-
--- is the record that r begins with a child of node n with this tag; and with this number?
-unfoldable pub taggedIn : List ℕ → ℕ → List ℕ → Bool
-taggedIn r n a = eqb (parentIn r) n && sameBytes (tagIn r) a
-
-unfoldable pub namedIn : List ℕ → ℕ → List ℕ → ℕ → Bool
-namedIn r n a i = eqb (numberIn r) i && taggedIn r n a
+use Rattle.tree.specs.Tree.{records, checkTree}
+use Rattle.tree.specs.Resolve.{Instances, nodes, unresolved, starred, along}
 
 -- the first of some nodes, 0 where there is none
 abbrev pub firstOf : List ℕ → ℕ
@@ -45,18 +37,14 @@ unfoldable pub segmentsFrom : List ℕ → ℕ → List (List ℕ)
 segmentsFrom text at = cond (leb at (length text)) (parts isSeparator (drop at text)) []
 
 -- what they lead to from node n
-unfoldable pub alongFrom : List ℕ → List ℕ → ℕ → ℕ → Found
+unfoldable pub alongFrom : List ℕ → List ℕ → ℕ → ℕ → Instances
 alongFrom text t n at = along t n at (segmentsFrom text at)
 
--- all children of n with a tag that stands at a place
-unfoldable pub starred : List ℕ → ℕ → ℕ → List ℕ → Found
-starred t n at a = orNone at (taggedUnder t n a) (λ m ms. nodes (m ∷ ms))
-
 -- what the code finds at a path's end
-abbrev pub foundAt : List ℕ → List ℕ → Spot → Found
-foundAt text t (Node n) = nodes (n ∷ [])
-foundAt text t (Tagged n at len) = starred t n at (take len (drop at text))
-foundAt text t (Lost number place) = refused number place
+abbrev pub instancesAt : List ℕ → List ℕ → Spot → Instances
+instancesAt text t (Node n) = nodes (n ∷ [])
+instancesAt text t (Tagged n at len) = starred t n at (take len (drop at text))
+instancesAt text t (Lost number place) = unresolved number place
 
 -- and that it lies within the tree and the text
 abbrev pub Within : List ℕ → List ℕ → Spot → Type 0

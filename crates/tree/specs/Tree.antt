@@ -7,13 +7,11 @@ use lib.ListN.{length, getD, take, drop}
 use lib.Dec.{ltb, eqb}
 use Rattle.text.specs.Bytes.{sameBytes, isLetter}
 use Rattle.text.specs.Lists.{allOf, anyOf}
+use Rattle.text.specs.Room.{be16}
 use Rattle.tree.specs.declared.Checked.{Checked}
 use Rattle.tree.specs.declared.Checked.the-variants.{Good, Bad}
 
 -- ---- the fields of the record that a list begins with
-
-abbrev pub be16 : ℕ → ℕ → ℕ
-be16 high low = 256 * high + low
 
 abbrev pub kindIn : List ℕ → ℕ
 kindIn r = getD r 0 0
@@ -50,14 +48,14 @@ twinIn (suc n) e r = sameNode e r || twinIn n (drop 22 e) r
 unfoldable pub twin : List ℕ → List ℕ → Bool
 twin e r = twinIn (length e / 22) e r
 
-abbrev pub holds : Bool → Bool
-holds b = b
+abbrev pub isTrue : Bool → Bool
+isTrue b = b
 
 -- A record is bad if cut, of another kind, beyond the 512th, its parent is not below its own number, tag length isn't 1 to 16, a tag byte is no letter,
 -- padding isn't zero, number is 0,
 unfoldable pub badForm : List ℕ → ℕ → Bool
 badForm r k =
-    anyOf holds
+    anyOf isTrue
     (ltb (length r) 22
     ∷ not (eqb (kindIn r) 16)
     ∷ ltb 511 k

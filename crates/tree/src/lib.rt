@@ -1,15 +1,16 @@
 // The lent tree: its check, the full path of a node, and the instances that a target addresses.
 ghost use mathlib.Core.Path.{_≡_};
-ghost use Prim.Native.Nat.{_+_, _*_, _≤_, _<_};
+ghost use Prim.Native.Nat.{_+_, _-_, _*_, _/_, _≤_, _<_};
 ghost use mathlib.Core.List.{[], _∷_};
 ghost use mathlib.Core.Bool.{cond, false};
 ghost use lib.ListN.{length, set};
 ghost use lib.Seq.{sets};
 ghost use Rattle.text.specs.Lists.{allOf};
+ghost use Rattle.text.specs.Room.{be16};
 ghost use Rattle.tree.specs.Tree.{isZero, tagLenIn, sameNode, twin, badForm, checkTree, records, recordAt, parent, number};
 ghost use Rattle.tree.specs.Marks.{mixed, mixOf};
-ghost use Rattle.tree.specs.Resolve.{taggedUnder, namedUnder, inTree, resolvedBy, listBy, resolveOf, resolveList, session′, nodes};
-ghost use Rattle.tree.specs.Steps.{taggedIn, namedIn, firstOf, kept, verdictOf, alongFrom, starred, foundAt, Within};
+ghost use Rattle.tree.specs.Resolve.{taggedIn, namedIn, taggedUnder, namedUnder, starred, inTree, resolvedBy, listBy, resolveOf, resolveList, session′, nodes};
+ghost use Rattle.tree.specs.Steps.{firstOf, kept, verdictOf, alongFrom, instancesAt, Within};
 ghost use Rattle.tree.specs.Path.{segment, pathUp, pathAnswer, pathRoom};
 
 // Whether a tree is good, or where its first bad record starts.
@@ -33,6 +34,28 @@ enum Spot {
 }
 
 // The bytes of a record: kind 0, parent 1 and 2, tag length 3, tag and padding 4 to 19, number 20 and 21.
+
+// How many bytes a record has.
+fn node_len() -> usize
+    ensures { λ r. ⌜ r ≡ 22 ⌝ }
+{
+    words::record_len(16)
+}
+
+// How many whole records there are.
+fn count(t: &[u8]) -> usize
+    ensures { λ r. ⌜ r ≡ length (now (t .entry)) / 22 ⌝ }
+{
+    t.len() / node_len()
+}
+
+// Where the record of a node starts.
+fn start(k: usize) -> usize
+    requires { ⌜ (1 ≤ k) × (22 * k ≤ 18446744073709551615) ⌝ }
+    ensures { λ r. ⌜ r ≡ 22 * (k - 1) ⌝ }
+{
+    node_len() * (k - 1)
+}
 
 fn zeros(s: &[u8]) -> bool
     ensures { λ r. ⌜ r ≡ allOf isZero (now (s .entry)) ⌝ }
@@ -70,24 +93,26 @@ fn twin(e: &[u8], r: &[u8]) -> bool
     requires { ⌜ (22 ≤ length (now r)) × (tagLenIn (now r) ≤ 16) ⌝ }
     ensures { λ x. ⌜ x ≡ twin (now (e .entry)) (now (r .entry)) ⌝ }
 {
-    let n = e.len() / 22;
+    let n = count(e);
+    let size = node_len();
     let mut j: usize = 0;
     let mut p: usize = 0;
     while j < n {
         if same_node(&e[p..], r) {
             return true;
         }
-        p += 22;
+        p += size;
         j += 1;
     }
     false
 }
 
-// The record that r begins with, the one after k others, is bad by its own bytes.
-fn bad_form(r: &[u8], k: usize) -> bool
+// The record that r begins with, the one after k others, is bad by its own bytes; so many bytes are a whole one.
+fn bad_form(r: &[u8], k: usize, size: usize) -> bool
+    requires { ⌜ size ≡ 22 ⌝ }
     ensures { λ x. ⌜ x ≡ badForm (now (r .entry)) k ⌝ }
 {
-    if r.len() < 22 {
+    if r.len() < size {
         return true;
     }
     if r[0] != 16 {
@@ -121,7 +146,7 @@ fn bad_form(r: &[u8], k: usize) -> bool
 
 // A number's two bytes, high first.
 fn be16(high: u8, low: u8) -> u16
-    ensures { λ r. ⌜ r ≡ 256 * high + low ⌝ }
+    ensures { λ r. ⌜ r ≡ be16 high low ⌝ }
 {
     256 * (high as u16) + (low as u16)
 }
@@ -170,10 +195,11 @@ pub fn check(t: &[u8]) -> Checked
 {
     // Each record that is passed leaves its two marks here.
     let mut marks = [false; 4096];
+    let size = node_len();
     let mut k: usize = 0;
     let mut p: usize = 0;
     while p < t.len() {
-        if bad_form(&t[p..], k) {
+        if bad_form(&t[p..], k, size) {
             return Checked::Bad(p);
         }
         let m = mix(&t[p..]);
@@ -184,7 +210,7 @@ pub fn check(t: &[u8]) -> Checked
         }
         marks[mark] = true;
         marks[other] = true;
-        p += 22;
+        p += size;
         k += 1;
     }
     Checked::Good
@@ -197,7 +223,7 @@ fn parent(t: &[u8], k: usize) -> usize
     requires { ⌜ (checkTree (now t) ≡ Checked.Good) × (1 ≤ k) × (k ≤ records (now t)) ⌝ }
     ensures { λ r. ⌜ (r ≡ parent (now (t .entry)) k) × (r < k) ⌝ }
 {
-    let p = 22 * (k - 1);
+    let p = start(k);
     text::pair(t[p + 1], t[p + 2])
 }
 
@@ -206,7 +232,7 @@ fn tag_len(t: &[u8], k: usize) -> usize
     requires { ⌜ (checkTree (now t) ≡ Checked.Good) × (1 ≤ k) × (k ≤ records (now t)) ⌝ }
     ensures { λ r. ⌜ (r ≡ tagLenIn (recordAt (now (t .entry)) k)) × (r ≤ 16) × (22 * k ≤ length (now (t .entry))) ⌝ }
 {
-    let p = 22 * (k - 1);
+    let p = start(k);
     text::pair(0, t[p + 3])
 }
 
@@ -215,7 +241,7 @@ fn number(t: &[u8], k: usize) -> u16
     requires { ⌜ (checkTree (now t) ≡ Checked.Good) × (1 ≤ k) × (k ≤ records (now t)) ⌝ }
     ensures { λ r. ⌜ r ≡ number (now (t .entry)) k ⌝ }
 {
-    let p = 22 * (k - 1);
+    let p = start(k);
     be16(t[p + 20], t[p + 21])
 }
 
@@ -234,7 +260,7 @@ fn put_segment(t: &[u8], k: usize, out: &mut [u8], at: usize) -> usize
     ensures { λ r. ⌜ (r ≡ at + (1 + length (segment (now (t .entry)) k))) × (now (out .exit) ≡ sets (now (out .entry)) at (_∷_ 47 (segment (now (t .entry)) k))) ⌝ }
 {
     let n = tag_len(t, k);
-    let from = 22 * (k - 1) + 4;
+    let from = start(k) + 4;
     let end = from + n;
     text::put(out, at, b'/');
     text::copy(out, at + 1, &t[from..end]);
@@ -270,7 +296,7 @@ fn path_in(t: &[u8], k: usize, out: &mut [u8]) -> text::Answer
     requires { ⌜ checkTree (now t) ≡ Checked.Good ⌝ }
     ensures { λ r. ⌜ (r ≡ pathAnswer (length (now (out .entry))) (now (t .entry)) k) × (now (out .exit) ≡ pathRoom (now (out .entry)) (now (t .entry)) k) ⌝ }
 {
-    if t.len() / 22 < k {
+    if count(t) < k {
         return text::Answer::Refused {
             number: 16,
             place: 0,
@@ -340,14 +366,15 @@ fn child(t: &[u8], node: usize, tag: &[u8], number: u16) -> usize
     requires { ⌜ checkTree (now t) ≡ Checked.Good ⌝ }
     ensures { λ r. ⌜ (r ≡ firstOf (namedUnder (now (t .entry)) node (now (tag .entry)) number)) × (r ≤ records (now (t .entry))) ⌝ }
 {
-    let n = t.len() / 22;
+    let n = count(t);
+    let size = node_len();
     let mut k: usize = 0;
     let mut p: usize = 0;
     while k < n {
         if is_named(&t[p..], node, tag, number) {
             return k + 1;
         }
-        p += 22;
+        p += size;
         k += 1;
     }
     0
@@ -356,7 +383,7 @@ fn child(t: &[u8], node: usize, tag: &[u8], number: u16) -> usize
 // From segment to segment, from a place of the text and a node on.
 fn follow(text: &[u8], t: &[u8], at: usize, node: usize) -> Spot
     requires { ⌜ (checkTree (now t) ≡ Checked.Good) × (node ≤ records (now t)) ⌝ }
-    ensures { λ r. ⌜ (foundAt (now (text .entry)) (now (t .entry)) r ≡ alongFrom (now (text .entry)) (now (t .entry)) node at) × Within (now (text .entry)) (now (t .entry)) r ⌝ }
+    ensures { λ r. ⌜ (instancesAt (now (text .entry)) (now (t .entry)) r ≡ alongFrom (now (text .entry)) (now (t .entry)) node at) × Within (now (text .entry)) (now (t .entry)) r ⌝ }
 {
     if text.len() < at {
         return Spot::Node(node);
@@ -426,13 +453,14 @@ fn count_tagged(t: &[u8], node: usize, tag: &[u8]) -> usize
     requires { ⌜ checkTree (now t) ≡ Checked.Good ⌝ }
     ensures { λ r. ⌜ r ≡ length (taggedUnder (now (t .entry)) node (now (tag .entry))) ⌝ }
 {
-    let n = t.len() / 22;
+    let n = count(t);
+    let size = node_len();
     let mut k: usize = 0;
     let mut p: usize = 0;
     let mut found: usize = 0;
     while k < n {
         found += one(is_tagged(&t[p..], node, tag));
-        p += 22;
+        p += size;
         k += 1;
     }
     found
@@ -443,7 +471,8 @@ fn put_tagged(t: &[u8], node: usize, tag: &[u8], list: &mut [u16])
     requires { ⌜ checkTree (now t) ≡ Checked.Good ⌝ }
     ensures { λ r. ⌜ now (list .exit) ≡ sets (now (list .entry)) 0 (taggedUnder (now (t .entry)) node (now (tag .entry))) ⌝ }
 {
-    let n = t.len() / 22;
+    let n = count(t);
+    let size = node_len();
     let mut k: usize = 0;
     let mut p: usize = 0;
     let mut at: usize = 0;
@@ -451,7 +480,7 @@ fn put_tagged(t: &[u8], node: usize, tag: &[u8], list: &mut [u16])
         let yes = is_tagged(&t[p..], node, tag);
         k += 1;
         at = keep(list, at, k as u16, yes);
-        p += 22;
+        p += size;
     }
 }
 
@@ -518,7 +547,7 @@ fn verdict(t: &[u8], default: usize) -> text::Verdict
             place: p,
         },
         Checked::Good => {
-            if t.len() / 22 < default {
+            if count(t) < default {
                 return text::Verdict::Flawed {
                     number: 16,
                     place: 0,

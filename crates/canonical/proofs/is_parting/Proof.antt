@@ -6,8 +6,8 @@ use Rattle.canonical.proofs.is_parting.Tie as tie
 enum-told : tie.Need-enum-told
 enum-told c = search needs
 
-is-mark-requires : tie.Need-is-mark-requires
-is-mark-requires c κs = search needs
+parts-texts-requires : tie.Need-parts-texts-requires
+parts-texts-requires c κs = search needs
 
 enum-told-2 : tie.Need-enum-told-2
 enum-told-2 c = search needs
@@ -19,7 +19,7 @@ enum-told-4 : tie.Need-enum-told-4
 enum-told-4 c = search needs
 
 returns : tie.Need-returns
-returns c = rw (c .before .enum-told .given .1) (c .is-mark .ensures)
+returns c = rw (c .before .enum-told .given .1) (c .parts-texts .ensures)
 
 returns-2 : tie.Need-returns-2
 returns-2 c = search needs
@@ -35,7 +35,7 @@ is-parting-spec =
     tie.close
     (tie.spec
     enum-told
-    is-mark-requires
+    parts-texts-requires
     enum-told-2
     enum-told-3
     enum-told-4

@@ -11,9 +11,6 @@ use Rattle.canonical.proofs.WriteLaws.{short-dash}
 use Rattle.canonical.proofs.leads_dash.Statement.{statement}
 use Rattle.canonical.proofs.leads_dash.Tie as tie
 
-returns : tie.Need-returns
-returns c = sym (short-dash (c .before .before .args .s .now) (c .if1 .taken))
-
 slice-aggregate-same : tie.Need-slice-aggregate-same
 slice-aggregate-same c = let z : 2 ≤ length (c .before .before .before .args .s .now) = omega arith in sym (length-take-le 2 (c .before .before .before .args .s .now) z)
 
@@ -23,11 +20,14 @@ slice-aggregate-same-2 c = search needs
 same-requires : tie.Need-same-requires
 same-requires c κs = search needs
 
-returns-2 : tie.Need-returns-2
+returns : tie.Need-returns
 unfolding leadsDash bytes
-returns-2 c = c .same .ensures
+returns c = c .same .ensures
+
+returns-2 : tie.Need-returns-2
+returns-2 c = sym (short-dash (c .before .before .args .s .now) (c .if1 .left))
 
 pub leads-dash-spec : {M : Type 1} → statement M
 leads-dash-spec =
     tie.close
-    (tie.spec returns slice-aggregate-same slice-aggregate-same-2 same-requires returns-2)
+    (tie.spec slice-aggregate-same slice-aggregate-same-2 same-requires returns returns-2)

@@ -8,8 +8,8 @@ use native.Mathlib.Omega.{arith}
 use lib.ListN.{length, take, drop, length-append}
 use lib.Seq.{sets}
 use Rattle.canonical.proofs.WriteLaws.{then-left}
-use Rattle.canonical.specs.Written.{written, gap, writtenIn, totalFrom}
-use Rattle.reading.specs.Cursor.{left, start}
+use Rattle.canonical.specs.Written.{written, gap, writtenIn, writtenFrom}
+use Rattle.reading.specs.Cursor.{left, firstCursor}
 use Rattle.reading.specs.Shown.{verdictIn}
 use Rattle.reading.proofs.Steps.{step-end, step-refused, Stepped, step-part}
 use Rattle.reading.proofs.Folds.{refused-fine, verdict-part}
@@ -22,9 +22,9 @@ use Rattle.text.proofs.Slices.{part-between, length-part}
 
 abbrev Inv-loop : tie.InvT-loop
 Inv-loop line out₀ c₀ w₀ first₀ out c w first =
-    (totalFrom w first (left line c) ≡ totalFrom 0 true (left line start))
-    × (verdictIn (left line c) ≡ verdictIn (left line start))
-    × (verdictIn (left line start) ≡ Fine → sets out w (writtenIn first (left line c)) ≡ sets out₀ 0 (writtenIn true (left line start)))
+    (writtenFrom w first (left line c) ≡ writtenFrom 0 true (left line firstCursor))
+    × (verdictIn (left line c) ≡ verdictIn (left line firstCursor))
+    × (verdictIn (left line firstCursor) ≡ Fine → sets out w (writtenIn first (left line c)) ≡ sets out₀ 0 (writtenIn true (left line firstCursor)))
     × (length out ≡ length out₀)
     × (c .at ≤ length line)
     × (w ≤ 17 * c .at)
@@ -74,7 +74,7 @@ returns-2 c =
     let l = c .before .before .before .before .loop in
     let line = c .before .before .before .before .before .before .before .before .args .line .now in
     let e = step-refused line (l .c) (n .result) (n .ensures) _ _ (c .before .g .given .1) in (
-      sym (ap (totalFrom (l .w) (l .first)) e) ∙ l .inv .0,
+      sym (ap (writtenFrom (l .w) (l .first)) e) ∙ l .inv .0,
       λ f. refused-fine (left line (l .c)) _ _ e (l .inv .1 ∙ f),
     )
 
@@ -160,7 +160,7 @@ loop-again c =
     let d : p .result ≡ l .w + length (gap (l .first) ++ b) = omega (arith, r, q .ensures .0, length-append (gap (l .first)) b) in
     let v = verdict-part line (l .c) x from len after t in
     let k = gap-short (l .first) in (
-      ap (λ (n : ℕ). totalFrom n false (left line after)) d ∙ sym (step-total line (l .c) after x from len t (l .first) (l .w)) ∙ l .inv .0,
+      ap (λ (n : ℕ). writtenFrom n false (left line after)) d ∙ sym (step-total line (l .c) after x from len t (l .first) (l .w)) ∙ l .inv .0,
       sym v ∙ l .inv .1,
       λ f. then-left (l .out) (p .last .0) (gap (l .first) ++ b) (writtenIn false (left line after)) _ (l .w) (p .result) (sym (ap (sets (l .out) (l .w)) (step-written line (l .c) after x from len t (l .first) (sym v ∙ l .inv .1 ∙ f))) ∙ l .inv .2 f) o d,
       omega arith,

@@ -10,7 +10,7 @@ use lib.Seq.{sets, length-take-le}
 use Rattle.text.proofs.Writes.{held-is, then-sets}
 use Rattle.canonical.specs.Written.{gravedAll, leadsDash, dashGrave, placeIn}
 use Rattle.terms.specs.Signs.{meant}
-use Rattle.terms.proofs.TermLaws.{meant-length}
+use Rattle.terms.proofs.SignBytes.{meant-length}
 use Rattle.canonical.proofs.put_place.Statement.{statement}
 use Rattle.canonical.proofs.put_place.Tie as tie
 

@@ -10,14 +10,14 @@ use lib.Seq.{sets, length-take-le}
 use Rattle.canonical.proofs.WriteLaws.{plain-none, text-plain, text-in-none, text-in-some}
 use Rattle.canonical.proofs.TextWriting.{word-signs}
 use Rattle.text.proofs.Writes.{held-is}
-use Rattle.canonical.specs.Canonical.{writeText}
-use Rattle.canonical.specs.Written.{isPlain, textIn}
+use Rattle.canonical.specs.Canonical.{isPlain, writeText}
+use Rattle.canonical.specs.Written.{textWritten}
 use Rattle.text.specs.Bytes.{isWord}
 use Rattle.text.specs.Lists.{allOf, isNil}
-use Rattle.text.proofs.Basics.{and-r, no-case}
+use Rattle.text.proofs.Tests.{and-r, no-case}
 use Rattle.terms.specs.declared.Mode.the-variants.{Out}
 use Rattle.terms.specs.Signs.{signs, raws, meant}
-use Rattle.terms.proofs.TermLaws.{raws-signs, meant-length}
+use Rattle.terms.proofs.SignBytes.{raws-signs, meant-length}
 use Rattle.canonical.proofs.put_text.Statement.{statement}
 use Rattle.canonical.proofs.put_text.Tie as tie
 
@@ -30,7 +30,7 @@ words-meant : (s : List ℕ) → allOf isWord s ≡ true → meant s ≡ s
 unfolding meant
 words-meant s w = word-signs (signs Out s) (ap (allOf isWord) (raws-signs s) ∙ w) .1 ∙ raws-signs s
 
-plain-in : (s : List ℕ) → isPlain s ≡ true → textIn s ≡ s
+plain-in : (s : List ℕ) → isPlain s ≡ true → textWritten s ≡ s
 plain-in s e = text-in-some s some ∙ ap (λ (z : List ℕ). raws (writeText z)) (words-meant s (plain-words s e)) ∙ text-plain s e
   where
     some : length s ≡ 0 → ⊥

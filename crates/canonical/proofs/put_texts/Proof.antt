@@ -7,7 +7,7 @@ use native.Mathlib.Omega.{arith}
 use lib.ListN.{length, getD, take, drop}
 use lib.Seq.{sets, length-take-le}
 use Rattle.canonical.proofs.WriteLaws.{then-left, left-length, texts-last, texts-more, text-fits}
-use Rattle.canonical.specs.Written.{textIn, textsIn}
+use Rattle.canonical.specs.Written.{textWritten, textsIn}
 use lib.ListN.{length-drop}
 use Rattle.canonical.proofs.put_texts.Statement.{statement}
 use Rattle.canonical.proofs.put_texts.Tie as tie
@@ -99,7 +99,7 @@ loop-again c =
     let s = a .s .now in
     let end = t .text-end .result in
     let w : l .i ≤ end = omega (arith, t .text-end .ensures) in
-    let x = textIn (take (end - l .i) (drop (l .i) s)) in
+    let x = textWritten (take (end - l .i) (drop (l .i) s)) in
     let r = textsIn (drop (end + 1) s) in
     let b = getD s end 0 in
     let less : end < length s = omega arith in

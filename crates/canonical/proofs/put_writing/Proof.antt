@@ -3,7 +3,7 @@ use borrow.Author.Needs.{needs}
 use mathlib.Core.Path.{sym, ap, _∙_}
 use mathlib.Core.Bool.{true}
 use lib.Seq.{sets}
-use Rattle.canonical.specs.Written.{writtenIn, totalFrom}
+use Rattle.canonical.specs.Written.{writtenIn, writtenFrom}
 use Rattle.reading.specs.Reading.{Reading, readingOf}
 use Rattle.reading.specs.Shown.{verdictIn}
 use Rattle.reading.proofs.Folds.{fine-left, flawed-left, fine-short, refused-fine}
@@ -26,7 +26,7 @@ returns : tie.Need-returns
 returns c =
     let line = c .before .before .before .before .before .before .args .line .now in
     let e = flawed-left line _ _ (sym (c .before .before .before .lexical .ensures) ∙ c .before .v .given .1) in
-    (sym (ap (totalFrom 0 true) e), λ f. refused-fine (readingOf line) _ _ e f)
+    (sym (ap (writtenFrom 0 true) e), λ f. refused-fine (readingOf line) _ _ e f)
 
 same-length : tie.Need-same-length
 same-length c = search needs
@@ -36,7 +36,7 @@ returns-2 c =
     let a = c .before .before .before .before .before .before .before .before .before .args in
     let e = fine-left (a .line .now) (sym (c .before .before .before .before .before .before .lexical .ensures) ∙ c .before .before .before .before .enum-told .given .1) in
     let p = c .before .before .put-line in (
-      p .ensures .0 ∙ sym (ap (totalFrom 0 true) e),
+      p .ensures .0 ∙ sym (ap (writtenFrom 0 true) e),
       λ f. p .ensures .1 (sym (ap verdictIn e) ∙ f) ∙ sym (ap (λ (r : Reading). sets (a .out .now) 0 (writtenIn true r)) e),
     )
 

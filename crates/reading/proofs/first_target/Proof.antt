@@ -5,7 +5,7 @@ use mathlib.Core.Path.{_≡_, refl, sym, ap, _∙_}
 use native.Mathlib.Omega.{arith}
 use lib.ListN.{length}
 use Rattle.text.specs.declared.Verdict.the-variants.{Fine}
-use Rattle.reading.specs.Cursor.{left, start}
+use Rattle.reading.specs.Cursor.{left, firstCursor}
 use Rattle.reading.proofs.Steps.{step-part, step-refused, step-end}
 use Rattle.reading.specs.Records.{targetSpan, targetIn}
 use Rattle.reading.specs.Shown.{verdictIn}
@@ -14,7 +14,7 @@ use Rattle.reading.proofs.first_target.Statement.{statement}
 use Rattle.reading.proofs.first_target.Tie as tie
 
 abbrev Inv-loop : tie.InvT-loop
-Inv-loop line c₀ c = (targetIn (left line c) ≡ targetIn (left line start)) × (verdictIn (left line c) ≡ Fine) × (c .at ≤ length line)
+Inv-loop line c₀ c = (targetIn (left line c) ≡ targetIn (left line firstCursor)) × (verdictIn (left line c) ≡ Fine) × (c .at ≤ length line)
 
 abbrev μ-loop : tie.MeasureT-loop
 μ-loop line c₀ c = length line - c .at

@@ -2,7 +2,7 @@
 use mathlib.Core.Path.{sym, ap, _∙_}
 use Rattle.text.specs.Lists.{isNil}
 use Rattle.terms.specs.Terms.{termsOf}
-use Rattle.terms.proofs.TermLaws.{terms-some, terms-none}
+use Rattle.terms.proofs.NextTerm.{terms-some, terms-none}
 use borrow.Author.Needs.{needs}
 use Rattle.reading.proofs.is_blank.Statement.{statement}
 use Rattle.reading.proofs.is_blank.Tie as tie

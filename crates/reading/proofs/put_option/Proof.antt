@@ -1,4 +1,7 @@
 -- `reading::put_option` meets its contract. Assumes nothing.
+use mathlib.Core.Path.{sym, _∙_}
+use Rattle.reading.specs.declared.Shown.the-variants as shown
+use Rattle.reading.proofs.Sizes.{record-sized}
 use borrow.Author.Needs.{needs}
 use Rattle.reading.proofs.put_option.Statement.{statement}
 use Rattle.reading.proofs.put_option.Tie as tie
@@ -21,13 +24,19 @@ slice-aggregate-copy c = search needs
 copy-requires : tie.Need-copy-requires
 copy-requires c κs = search needs
 
+record-len-requires : tie.Need-record-len-requires
+record-len-requires c κs = search needs
+
 same-length : tie.Need-same-length
 same-length c = search needs
 
 returns : tie.Need-returns
 returns c =
-    let l = c .before .before .before .before .before in
-    rw (l .low2 .ensures, l .before .high2 .ensures, l .before .before .low .ensures, l .before .before .before .high .ensures) at (c .before .before .copy .ensures)
+    let l = c .before .before .before .before .before .before in
+    let a = l .before .before .before .before .before .args in (
+      c .record-len .ensures ∙ sym (record-sized (shown.Argument (a .number)) (a .a) (a .n)),
+      rw (l .low2 .ensures, l .before .high2 .ensures, l .before .before .low .ensures, l .before .before .before .high .ensures) at (c .before .before .before .copy .ensures),
+    )
 
 pub put-option-spec : {M : Type 1} → statement M
 put-option-spec =
@@ -39,5 +48,6 @@ put-option-spec =
     low-requires-2
     slice-aggregate-copy
     copy-requires
+    record-len-requires
     same-length
     returns)

@@ -20,7 +20,7 @@ same-length : tie.Need-same-length
 same-length c = search needs
 
 returns : tie.Need-returns
-returns c = rw (eq-eqb _ _ (c .before .before .before .before .if1 .taken)) (rw (c .before .before .before .before .before .less .ensures) at (c .before .before .put-parts .ensures))
+returns c = let p = c .before .before .put-parts .ensures in (p .0, rw (eq-eqb _ _ (c .before .before .before .before .if1 .taken)) (rw (c .before .before .before .before .before .less .ensures) at (p .1)))
 
 add-put-parts-2 : tie.Need-add-put-parts-2
 add-put-parts-2 c = search needs
@@ -35,22 +35,7 @@ same-length-2 : tie.Need-same-length-2
 same-length-2 c = search needs
 
 returns-2 : tie.Need-returns-2
-returns-2 c = rw (ne-eqb _ _ (c .before .before .before .before .before .before .if1 .left), eq-eqb _ _ (c .before .before .before .before .before .if2 .taken)) (rw (c .before .before .before .less2 .ensures, c .before .before .before .before .before .before .before .less .ensures) at (c .before .before .put-parts2 .ensures))
-
-add-put-parts-3 : tie.Need-add-put-parts-3
-add-put-parts-3 c = search needs
-
-less-requires-3 : tie.Need-less-requires-3
-less-requires-3 c κs = search needs
-
-put-parts-requires-3 : tie.Need-put-parts-requires-3
-put-parts-requires-3 c κs = search needs
-
-same-length-3 : tie.Need-same-length-3
-same-length-3 c = search needs
-
-returns-3 : tie.Need-returns-3
-returns-3 c = rw (ne-eqb _ _ (c .before .before .before .before .before .before .if1 .left), ne-eqb _ _ (c .before .before .before .before .before .if2 .left)) (rw (c .before .before .before .less3 .ensures, c .before .before .before .before .before .before .before .less .ensures) at (c .before .before .put-parts3 .ensures))
+returns-2 c = let p = c .before .before .put-parts2 .ensures in (p .0, rw (ne-eqb _ _ (c .before .before .before .before .before .if1 .left)) (rw (c .before .before .before .less2 .ensures, c .before .before .before .before .before .before .less .ensures) at (p .1)))
 
 pub put-property-spec : {M : Type 1} → statement M
 put-property-spec =
@@ -66,9 +51,4 @@ put-property-spec =
     less-requires-2
     put-parts-requires-2
     same-length-2
-    returns-2
-    add-put-parts-3
-    less-requires-3
-    put-parts-requires-3
-    same-length-3
-    returns-3)
+    returns-2)

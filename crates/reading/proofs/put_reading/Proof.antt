@@ -4,6 +4,8 @@ use lib.Seq.{sets}
 use Rattle.reading.specs.Reading.{Reading, readingOf}
 use Rattle.reading.specs.Shown.{verdictIn, neededIn, bytesIn}
 use Rattle.reading.proofs.Folds.{refused-fine, fine-left, flawed-left, fine-short, blank-left, total-needed, bytes-records}
+use Rattle.text.specs.declared.Answer.the-variants.{Wrote}
+use Rattle.reading.proofs.Sizes.{blank-sized}
 use borrow.Author.Needs.{needs}
 use Rattle.reading.proofs.put_reading.Statement.{statement}
 use Rattle.reading.proofs.put_reading.Tie as tie
@@ -23,16 +25,19 @@ is-blank-requires c κs = search needs
 put-requires : tie.Need-put-requires
 put-requires c κs = search needs
 
+record-len-requires : tie.Need-record-len-requires
+record-len-requires c κs = search needs
+
 same-length : tie.Need-same-length
 same-length c = search needs
 
 returns : tie.Need-returns
 returns c =
-    let a = c .before .before .before .before .before .before .before .before .before .before .before .args in
+    let a = c .before .before .before .before .before .before .before .before .before .before .before .before .args in
     let line = a .line .now in
-    let f = sym (c .before .before .before .before .before .before .before .before .lexical .ensures) ∙ c .before .before .before .before .before .before .enum-told .given .1 in
-    let e = fine-left line f ∙ blank-left line (sym (c .before .before .before .before .before .is-blank .ensures) ∙ c .before .before .before .before .if1 .taken) in
-    (sym (ap neededIn e), λ g. c .before .before .put .ensures ∙ sym (ap (λ (r : Reading). sets (a .out .now) 0 (bytesIn r)) e))
+    let f = sym (c .before .before .before .before .before .before .before .before .before .lexical .ensures) ∙ c .before .before .before .before .before .before .before .enum-told .given .1 in
+    let e = fine-left line f ∙ blank-left line (sym (c .before .before .before .before .before .before .is-blank .ensures) ∙ c .before .before .before .before .before .if1 .taken) in
+    (ap Wrote (c .record-len .ensures ∙ sym blank-sized) ∙ sym (ap neededIn e), λ g. c .before .before .before .put .ensures ∙ sym (ap (λ (r : Reading). sets (a .out .now) 0 (bytesIn r)) e))
 
 put-records-requires : tie.Need-put-records-requires
 put-records-requires c κs = fine-short (c .before .before .before .before .before .before .before .before .args .line .now) (sym (c .before .before .before .before .before .lexical .ensures) ∙ c .before .before .before .enum-told .given .1)
@@ -67,6 +72,7 @@ put-reading-spec =
     enum-told
     is-blank-requires
     put-requires
+    record-len-requires
     same-length
     returns
     put-records-requires

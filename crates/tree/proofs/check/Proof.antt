@@ -13,13 +13,16 @@ use Rattle.tree.proofs.CheckLaws.{check-start, check-again, stop-form, 
 use Rattle.tree.proofs.MarkLaws.{turn-fits, turn-lone, turn-marked}
 
 abbrev Inv-loop : tie.InvT-loop
-Inv-loop t marks₀ k₀ p₀ marks k p = (p ≡ 22 * k) × (k ≤ records t) × (checkFrom (records t - k) t k ≡ checkTree t) × Marked marks t k
+Inv-loop t marks₀ size k₀ p₀ marks k p = (p ≡ 22 * k) × (k ≤ records t) × (checkFrom (records t - k) t k ≡ checkTree t) × Marked marks t k × (size ≡ 22)
 
 abbrev μ-loop : tie.MeasureT-loop
-μ-loop t marks₀ k₀ p₀ marks k p = length t - p
+μ-loop t marks₀ size k₀ p₀ marks k p = length t - p
+
+node-len-requires : tie.Need-node-len-requires Inv-loop μ-loop
+node-len-requires c κs = search needs
 
 loop-holds : tie.Need-loop-holds Inv-loop μ-loop
-loop-holds c = (omega arith, omega arith, check-start _, (omega arith, λ j h. absurd (omega arith)))
+loop-holds c = (omega arith, omega arith, check-start _, (omega arith, λ j h. absurd (omega arith)), c .node-len .ensures)
 
 sub-bad-form : tie.Need-sub-bad-form Inv-loop μ-loop
 sub-bad-form c = omega arith
@@ -31,7 +34,7 @@ part-bad-form-end : tie.Need-part-bad-form-end Inv-loop μ-loop
 part-bad-form-end c = omega arith
 
 bad-form-requires : tie.Need-bad-form-requires Inv-loop μ-loop
-bad-form-requires c κs = tt
+bad-form-requires c κs = omega arith
 
 returns : tie.Need-returns Inv-loop μ-loop
 returns c = search (stop-form, needs)
@@ -49,7 +52,7 @@ mix-requires : tie.Need-mix-requires Inv-loop μ-loop
 mix-requires c κs =
     let b = c .before .before in
     let l = b .before .before .before in
-    turn-fits (l .before .before .args .t .now) (l .loop .k) (l .loop .p) _ (b .bad-form .ensures) (c .before .if1 .left)
+    turn-fits (l .before .before .before .args .t .now) (l .loop .k) (l .loop .p) _ (b .bad-form .ensures) (c .before .if1 .left)
 
 slice-aggregate-marked-twin : tie.Need-slice-aggregate-marked-twin Inv-loop μ-loop
 slice-aggregate-marked-twin c = sym (length-take-le _ _ (omega arith))
@@ -74,7 +77,7 @@ marked-twin-requires c κs =
     let m = c .before .before in
     let b = m .before .before .before in
     let l = b .before .before .before in
-    let t = l .before .before .args .t .now in
+    let t = l .before .before .before .args .t .now in
     let good = m .before .before .if1 .left in
     let f = turn-fits t (l .loop .k) (l .loop .p) _ (b .bad-form .ensures) good in
     let n = turn-lone t (l .loop .k) (l .loop .p) _ (b .bad-form .ensures) good _ (l .loop .marks) (l .loop .inv .0) (m .mix .ensures) (l .loop .inv .3) in
@@ -111,12 +114,12 @@ loop-again c =
     let m = w .before .before .before in
     let b = m .before .before .before in
     let l = b .before .before .before in
-    let t = l .before .before .args .t .now in
+    let t = l .before .before .before .args .t .now in
     let i = l .loop .inv in
     let good = m .before .before .if1 .left in
     let again = check-again t (l .loop .k) (l .loop .p) _ (b .before .before .loop-test .taken) (i .0) (i .1) (i .2) (b .bad-form .ensures) _ good (w .marked-twin .ensures) (c .if2 .left) in
     let marked = turn-marked t (l .loop .k) (l .loop .p) _ (b .bad-form .ensures) good _ (l .loop .marks) (i .0) (m .mix .ensures) (i .3) in
-    (omega arith, omega arith, again, marked)
+    (omega arith, omega arith, again, marked, omega arith)
 
 returns-3 : tie.Need-returns-3 Inv-loop μ-loop
 returns-3 c = search (check-end, needs)
@@ -127,6 +130,7 @@ check-spec =
     (tie.spec
     Inv-loop
     μ-loop
+    node-len-requires
     loop-holds
     sub-bad-form
     part-bad-form-start

@@ -12,13 +12,19 @@ use Rattle.tree.proofs.CheckLaws.{whole-from}
 use Rattle.tree.proofs.StepLaws.{record-short, child-start, child-found, child-again, child-none, child-within}
 
 abbrev Inv-loop : tie.InvT-loop
-Inv-loop t node tag number n k₀ p₀ k p = (n ≡ length t / 22) × (k ≤ n) × (p ≡ 22 * k) × (firstOf (nodesFrom (isNamed t node tag number) (suc k) (n - k)) ≡ firstOf (namedUnder t node tag number))
+Inv-loop t node tag number n size k₀ p₀ k p = (n ≡ length t / 22) × (k ≤ n) × (p ≡ 22 * k) × (firstOf (nodesFrom (isNamed t node tag number) (suc k) (n - k)) ≡ firstOf (namedUnder t node tag number)) × (size ≡ 22)
 
 abbrev μ-loop : tie.MeasureT-loop
-μ-loop t node tag number n k₀ p₀ k p = n - k
+μ-loop t node tag number n size k₀ p₀ k p = n - k
+
+count-requires : tie.Need-count-requires Inv-loop μ-loop
+count-requires c κs = search needs
+
+node-len-requires : tie.Need-node-len-requires Inv-loop μ-loop
+node-len-requires c κs = search needs
 
 loop-holds : tie.Need-loop-holds Inv-loop μ-loop
-loop-holds c = (omega arith, omega arith, omega arith, search (child-start, needs))
+loop-holds c = (c .before .count .ensures, omega arith, omega arith, search (child-start, needs), c .node-len .ensures)
 
 sub-is-named : tie.Need-sub-is-named Inv-loop μ-loop
 sub-is-named c = omega arith
@@ -48,7 +54,7 @@ loop-less : tie.Need-loop-less Inv-loop μ-loop
 loop-less c = omega arith
 
 loop-again : tie.Need-loop-again Inv-loop μ-loop
-loop-again c = (omega arith, omega arith, omega arith, search (child-again, needs))
+loop-again c = (omega arith, omega arith, omega arith, search (child-again, needs), omega arith)
 
 returns-2 : tie.Need-returns-2 Inv-loop μ-loop
 returns-2 c = (search (child-none, needs), omega arith)
@@ -59,6 +65,8 @@ child-spec =
     (tie.spec
     Inv-loop
     μ-loop
+    count-requires
+    node-len-requires
     loop-holds
     sub-is-named
     part-is-named-start

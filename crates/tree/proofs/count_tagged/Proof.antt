@@ -12,13 +12,19 @@ use Rattle.tree.proofs.StepLaws.{record-short}
 use Rattle.tree.proofs.GiveLaws.{count-start, count-again, count-end}
 
 abbrev Inv-loop : tie.InvT-loop
-Inv-loop t node tag n k₀ p₀ found₀ k p found = (n ≡ length t / 22) × (k ≤ n) × (p ≡ 22 * k) × (found ≤ k) × (found + length (nodesFrom (isTagged t node tag) (suc k) (n - k)) ≡ length (taggedUnder t node tag))
+Inv-loop t node tag n size k₀ p₀ found₀ k p found = (n ≡ length t / 22) × (k ≤ n) × (p ≡ 22 * k) × (found ≤ k) × (found + length (nodesFrom (isTagged t node tag) (suc k) (n - k)) ≡ length (taggedUnder t node tag)) × (size ≡ 22)
 
 abbrev μ-loop : tie.MeasureT-loop
-μ-loop t node tag n k₀ p₀ found₀ k p found = n - k
+μ-loop t node tag n size k₀ p₀ found₀ k p found = n - k
+
+count-requires : tie.Need-count-requires Inv-loop μ-loop
+count-requires c κs = search needs
+
+node-len-requires : tie.Need-node-len-requires Inv-loop μ-loop
+node-len-requires c κs = search needs
 
 loop-holds : tie.Need-loop-holds Inv-loop μ-loop
-loop-holds c = (omega arith, omega arith, omega arith, omega arith, search (count-start, needs))
+loop-holds c = (c .before .count .ensures, omega arith, omega arith, omega arith, search (count-start, needs), c .node-len .ensures)
 
 sub-is-tagged : tie.Need-sub-is-tagged Inv-loop μ-loop
 sub-is-tagged c = omega arith
@@ -48,7 +54,7 @@ loop-less : tie.Need-loop-less Inv-loop μ-loop
 loop-less c = omega arith
 
 loop-again : tie.Need-loop-again Inv-loop μ-loop
-loop-again c = (omega arith, omega arith, omega arith, omega arith, search (count-again, needs))
+loop-again c = (omega arith, omega arith, omega arith, omega arith, search (count-again, needs), omega arith)
 
 returns : tie.Need-returns Inv-loop μ-loop
 returns c = search (count-end, needs)
@@ -59,6 +65,8 @@ count-tagged-spec =
     (tie.spec
     Inv-loop
     μ-loop
+    count-requires
+    node-len-requires
     loop-holds
     sub-is-tagged
     part-is-tagged-start

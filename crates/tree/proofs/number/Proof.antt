@@ -5,23 +5,20 @@ use Rattle.tree.proofs.number.Tie as tie
 use native.Mathlib.Omega.{arith}
 use Rattle.tree.proofs.UpLaws.{node-whole, number-read}
 
-sub-p : tie.Need-sub-p
-sub-p c = search needs
-
-mul-p : tie.Need-mul-p
-mul-p c = search needs
+start-requires : tie.Need-start-requires
+start-requires c κs = search needs
 
 add-be16 : tie.Need-add-be16
 add-be16 c = search needs
 
 shared-slice-read-be16 : tie.Need-shared-slice-read-be16
-shared-slice-read-be16 c = let a = c .before .before in omega (arith, node-whole (a .args .t .now) (a .args .k) (a .pre .0) (a .pre .1) (a .pre .2))
+shared-slice-read-be16 c = let a = c .before .before .before in omega (arith, node-whole (a .args .t .now) (a .args .k) (a .pre .0) (a .pre .1) (a .pre .2))
 
 add-be16-2 : tie.Need-add-be16-2
 add-be16-2 c = search needs
 
 shared-slice-read-be16-2 : tie.Need-shared-slice-read-be16-2
-shared-slice-read-be16-2 c = let a = c .before .before .before in omega (arith, node-whole (a .args .t .now) (a .args .k) (a .pre .0) (a .pre .1) (a .pre .2))
+shared-slice-read-be16-2 c = let a = c .before .before .before .before in omega (arith, node-whole (a .args .t .now) (a .args .k) (a .pre .0) (a .pre .1) (a .pre .2))
 
 be16-requires : tie.Need-be16-requires
 be16-requires c κs = search needs
@@ -33,8 +30,7 @@ pub number-spec : {M : Type 1} → statement M
 number-spec =
     tie.close
     (tie.spec
-    sub-p
-    mul-p
+    start-requires
     add-be16
     shared-slice-read-be16
     add-be16-2

@@ -5,23 +5,20 @@ use Rattle.tree.proofs.parent.Tie as tie
 use native.Mathlib.Omega.{arith}
 use Rattle.tree.proofs.UpLaws.{node-whole, parent-read, parent-lower}
 
-sub-p : tie.Need-sub-p
-sub-p c = search needs
-
-mul-p : tie.Need-mul-p
-mul-p c = search needs
+start-requires : tie.Need-start-requires
+start-requires c κs = search needs
 
 add-pair : tie.Need-add-pair
 add-pair c = search needs
 
 shared-slice-read-pair : tie.Need-shared-slice-read-pair
-shared-slice-read-pair c = let a = c .before .before in omega (arith, node-whole (a .args .t .now) (a .args .k) (a .pre .0) (a .pre .1) (a .pre .2))
+shared-slice-read-pair c = let a = c .before .before .before in omega (arith, node-whole (a .args .t .now) (a .args .k) (a .pre .0) (a .pre .1) (a .pre .2))
 
 add-pair-2 : tie.Need-add-pair-2
 add-pair-2 c = search needs
 
 shared-slice-read-pair-2 : tie.Need-shared-slice-read-pair-2
-shared-slice-read-pair-2 c = let a = c .before .before .before in omega (arith, node-whole (a .args .t .now) (a .args .k) (a .pre .0) (a .pre .1) (a .pre .2))
+shared-slice-read-pair-2 c = let a = c .before .before .before .before in omega (arith, node-whole (a .args .t .now) (a .args .k) (a .pre .0) (a .pre .1) (a .pre .2))
 
 pair-requires : tie.Need-pair-requires
 pair-requires c κs = search needs
@@ -33,8 +30,7 @@ pub parent-spec : {M : Type 1} → statement M
 parent-spec =
     tie.close
     (tie.spec
-    sub-p
-    mul-p
+    start-requires
     add-pair
     shared-slice-read-pair
     add-pair-2

@@ -8,11 +8,8 @@ use Rattle.tree.proofs.UpLaws.{digits-most, segment-place, segment-put}
 tag-len-requires : tie.Need-tag-len-requires
 tag-len-requires c κs = search needs
 
-sub-from : tie.Need-sub-from
-sub-from c = search needs
-
-mul-from : tie.Need-mul-from
-mul-from c = search needs
+start-requires : tie.Need-start-requires
+start-requires c κs = search needs
 
 add-from : tie.Need-add-from
 add-from c = search needs
@@ -64,8 +61,7 @@ put-segment-spec =
     tie.close
     (tie.spec
     tag-len-requires
-    sub-from
-    mul-from
+    start-requires
     add-from
     add-end
     put-requires

@@ -13,13 +13,19 @@ use Rattle.tree.proofs.StepLaws.{record-short}
 use Rattle.tree.proofs.GiveLaws.{put-start, put-again, put-end, place-few, place-again}
 
 abbrev Inv-loop : tie.InvT-loop
-Inv-loop t node tag list₀ n k₀ p₀ at₀ list k p at = (n ≡ length t / 22) × (k ≤ n) × (p ≡ 22 * k) × (at ≤ k) × (n ≤ 512) × (length list ≡ length list₀) × (sets list at (nodesFrom (isTagged t node tag) (suc k) (n - k)) ≡ sets list₀ 0 (taggedUnder t node tag))
+Inv-loop t node tag list₀ n size k₀ p₀ at₀ list k p at = (n ≡ length t / 22) × (k ≤ n) × (p ≡ 22 * k) × (at ≤ k) × (n ≤ 512) × (length list ≡ length list₀) × (sets list at (nodesFrom (isTagged t node tag) (suc k) (n - k)) ≡ sets list₀ 0 (taggedUnder t node tag)) × (size ≡ 22)
 
 abbrev μ-loop : tie.MeasureT-loop
-μ-loop t node tag list₀ n k₀ p₀ at₀ list k p at = n - k
+μ-loop t node tag list₀ n size k₀ p₀ at₀ list k p at = n - k
+
+count-requires : tie.Need-count-requires Inv-loop μ-loop
+count-requires c κs = search needs
+
+node-len-requires : tie.Need-node-len-requires Inv-loop μ-loop
+node-len-requires c κs = search needs
 
 loop-holds : tie.Need-loop-holds Inv-loop μ-loop
-loop-holds c = (omega arith, omega arith, omega arith, omega arith, search (place-few, needs), omega arith, search (put-start, needs))
+loop-holds c = (c .before .count .ensures, omega arith, omega arith, omega arith, search (place-few, needs), omega arith, search (put-start, needs), c .node-len .ensures)
 
 sub-is-tagged : tie.Need-sub-is-tagged Inv-loop μ-loop
 sub-is-tagged c = omega arith
@@ -49,7 +55,7 @@ loop-less : tie.Need-loop-less Inv-loop μ-loop
 loop-less c = omega arith
 
 loop-again : tie.Need-loop-again Inv-loop μ-loop
-loop-again c = (omega arith, omega arith, omega arith, search (place-again, needs), omega arith, search needs, search (put-again, needs))
+loop-again c = (omega arith, omega arith, omega arith, search (place-again, needs), omega arith, search needs, search (put-again, needs), omega arith)
 
 same-length : tie.Need-same-length Inv-loop μ-loop
 same-length c = search needs
@@ -63,6 +69,8 @@ put-tagged-spec =
     (tie.spec
     Inv-loop
     μ-loop
+    count-requires
+    node-len-requires
     loop-holds
     sub-is-tagged
     part-is-tagged-start

@@ -10,13 +10,19 @@ use Rattle.tree.specs.Tree.{twinIn, twin}
 use Rattle.tree.proofs.CheckLaws.{whole-from, twin-start, twin-again, twin-stop, twin-end}
 
 abbrev Inv-loop : tie.InvT-loop
-Inv-loop e r n j₀ p₀ j p = (n ≡ length e / 22) × (j ≤ n) × (p ≡ 22 * j) × (twinIn (n - j) (drop p e) r ≡ twin e r)
+Inv-loop e r n size j₀ p₀ j p = (n ≡ length e / 22) × (j ≤ n) × (p ≡ 22 * j) × (twinIn (n - j) (drop p e) r ≡ twin e r) × (size ≡ 22)
 
 abbrev μ-loop : tie.MeasureT-loop
-μ-loop e r n j₀ p₀ j p = n - j
+μ-loop e r n size j₀ p₀ j p = n - j
+
+count-requires : tie.Need-count-requires Inv-loop μ-loop
+count-requires c κs = search needs
+
+node-len-requires : tie.Need-node-len-requires Inv-loop μ-loop
+node-len-requires c κs = search needs
 
 loop-holds : tie.Need-loop-holds Inv-loop μ-loop
-loop-holds c = (omega arith, omega arith, omega arith, twin-start _ _ _ refl)
+loop-holds c = (c .before .count .ensures, omega arith, omega arith, twin-start _ _ _ (c .before .count .ensures), c .node-len .ensures)
 
 sub-same-node : tie.Need-sub-same-node Inv-loop μ-loop
 sub-same-node c = omega arith
@@ -43,7 +49,7 @@ loop-less : tie.Need-loop-less Inv-loop μ-loop
 loop-less c = omega arith
 
 loop-again : tie.Need-loop-again Inv-loop μ-loop
-loop-again c = (omega arith, omega arith, omega arith, search (twin-again, needs))
+loop-again c = (omega arith, omega arith, omega arith, search (twin-again, needs), omega arith)
 
 returns-2 : tie.Need-returns-2 Inv-loop μ-loop
 returns-2 c = search (twin-end, needs)
@@ -54,6 +60,8 @@ twin-spec =
     (tie.spec
     Inv-loop
     μ-loop
+    count-requires
+    node-len-requires
     loop-holds
     sub-same-node
     part-same-node-start

@@ -13,15 +13,19 @@ enum-known-p c = search needs
 enum-told : tie.Need-enum-told
 enum-told c = search needs
 
+count-requires : tie.Need-count-requires
+count-requires c κs = search needs
+
 returns : tie.Need-returns
-returns c = search (flawed-node, needs)
+returns c = let h = rw (c .before .count .ensures) at (c .if1 .taken) in search (flawed-node, h, needs)
 
 returns-2 : tie.Need-returns-2
 returns-2 c = search (flawed-tree, needs)
 
 returns-3 : tie.Need-returns-3
-returns-3 c = search (fine-tree, needs)
+returns-3 c = let h = rw (c .before .count .ensures) at (c .if1 .left) in search (fine-tree, h, needs)
 
 pub verdict-spec : {M : Type 1} → statement M
 verdict-spec =
-    tie.close (tie.spec check-requires enum-known-p enum-told returns returns-2 returns-3)
+    tie.close
+    (tie.spec check-requires enum-known-p enum-told count-requires returns returns-2 returns-3)

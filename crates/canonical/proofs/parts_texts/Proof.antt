@@ -1,11 +1,11 @@
--- `canonical::is_mark` meets its contract.
+-- `canonical::parts_texts` meets its contract.
 use borrow.Author.Tests.{ne-eqb}
 use mathlib.Core.Path.{sym, ap}
 use Rattle.text.specs.Bytes.{bytes, oneOf}
 use Rattle.canonical.specs.Written.{isParting}
 use Rattle.terms.specs.declared.Mode.the-variants.{Out}
-use Rattle.canonical.proofs.is_mark.Statement.{statement}
-use Rattle.canonical.proofs.is_mark.Tie as tie
+use Rattle.canonical.proofs.parts_texts.Statement.{statement}
+use Rattle.canonical.proofs.parts_texts.Tie as tie
 
 returns : tie.Need-returns
 unfolding oneOf bytes
@@ -27,5 +27,5 @@ returns-5 : tie.Need-returns-5
 unfolding oneOf bytes
 returns-5 c = simp (ne-eqb _ _ (c .match .rest .0 .0 .0 .1), ne-eqb _ _ (c .match .rest .0 .0 .1), ne-eqb _ _ (c .match .rest .0 .1), ne-eqb _ _ (c .match .rest .1))
 
-pub is-mark-spec : {M : Type 1} → statement M
-is-mark-spec = tie.close (tie.spec returns returns-2 returns-3 returns-4 returns-5)
+pub parts-texts-spec : {M : Type 1} → statement M
+parts-texts-spec = tie.close (tie.spec returns returns-2 returns-3 returns-4 returns-5)

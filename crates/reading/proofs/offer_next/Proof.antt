@@ -1,15 +1,15 @@
--- `reading::given_next` meets its contract. Assumes nothing.
+-- `reading::offer_next` meets its contract. Assumes nothing.
 use mathlib.Core.Path.{_≡_, sym, ap, _∙_}
 use native.Mathlib.Omega.{arith}
 use Rattle.text.proofs.Slices.{length-from}
 use Rattle.terms.specs.declared.Found.the-variants.{Term}
 use Rattle.terms.specs.Scan.{termAt}
-use Rattle.terms.proofs.TermLaws.{Within, term-within}
-use Rattle.reading.specs.Cursor.{givenOn}
+use Rattle.terms.proofs.NextTerm.{Within, term-within}
+use Rattle.reading.specs.Cursor.{offerOn}
 use Rattle.reading.proofs.Steps.{none-given, term-given}
 use borrow.Author.Needs.{needs}
-use Rattle.reading.proofs.given_next.Statement.{statement}
-use Rattle.reading.proofs.given_next.Tie as tie
+use Rattle.reading.proofs.offer_next.Statement.{statement}
+use Rattle.reading.proofs.offer_next.Tie as tie
 
 got : (c : tie.After-start)
     → Term (c .start .given .0 .0) (c .start .given .0 .1 .0) ≡ termAt (c .before .before .before .before .args .line .now) (c .before .before .before .before .args .at)
@@ -28,14 +28,14 @@ enum-known-start c = search needs
 enum-told : tie.Need-enum-told
 enum-told c = search needs
 
-given-end-requires : tie.Need-given-end-requires
-given-end-requires c κs = search needs
+offer-end-requires : tie.Need-offer-end-requires
+offer-end-requires c κs = search needs
 
 returns : tie.Need-returns
 returns c =
     let t = c .before .before .before in
     let a = t .before .before .args in
-    c .given-end .ensures ∙ none-given (a .line .now) (a .at) (a .state) (sym (c .before .enum-told .given .1) ∙ t .term-at .ensures)
+    c .offer-end .ensures ∙ none-given (a .line .now) (a .at) (a .state) (sym (c .before .enum-told .given .1) ∙ t .term-at .ensures)
 
 sub-decide-in : tie.Need-sub-decide-in
 sub-decide-in c = let w = within (c .before .before) in omega arith
@@ -58,21 +58,21 @@ enum-known-d-2 c = search needs
 returns-2 : tie.Need-returns-2
 returns-2 c =
     let a = c .before .before .before .before .before .before .before .before .before .before .before .args in
-    sym (ap (givenOn _ _) (c .before .d .given .1)) ∙ term-given (a .line .now) (a .at) (a .state) _ _ _ (got (c .before .before .before .before .before .before .before)) (c .before .before .before .decide-in .ensures)
+    sym (ap (offerOn _ _) (c .before .d .given .1)) ∙ term-given (a .line .now) (a .at) (a .state) _ _ _ (got (c .before .before .before .before .before .before .before)) (c .before .before .before .decide-in .ensures)
 
 returns-3 : tie.Need-returns-3
 returns-3 c =
     let a = c .before .before .before .before .before .before .before .before .before .before .before .args in
-    sym (ap (givenOn _ _) (c .before .d2 .given .1)) ∙ term-given (a .line .now) (a .at) (a .state) _ _ _ (got (c .before .before .before .before .before .before .before)) (c .before .before .before .decide-in .ensures)
+    sym (ap (offerOn _ _) (c .before .d2 .given .1)) ∙ term-given (a .line .now) (a .at) (a .state) _ _ _ (got (c .before .before .before .before .before .before .before)) (c .before .before .before .decide-in .ensures)
 
-pub given-next-spec : {M : Type 1} → statement M
-given-next-spec =
+pub offer-next-spec : {M : Type 1} → statement M
+offer-next-spec =
     tie.close
     (tie.spec
     term-at-requires
     enum-known-start
     enum-told
-    given-end-requires
+    offer-end-requires
     returns
     sub-decide-in
     part-decide-in-start

@@ -1,7 +1,7 @@
--- `reading::given_end` meets its contract. Assumes nothing.
+-- `reading::offer_end` meets its contract. Assumes nothing.
 use borrow.Author.Needs.{needs}
-use Rattle.reading.proofs.given_end.Statement.{statement}
-use Rattle.reading.proofs.given_end.Tie as tie
+use Rattle.reading.proofs.offer_end.Statement.{statement}
+use Rattle.reading.proofs.offer_end.Tie as tie
 
 enum-told : tie.Need-enum-told
 enum-told c = search needs
@@ -27,7 +27,7 @@ returns-3 c = rw (c .enum-told3 .given .1)
 returns-4 : tie.Need-returns-4
 returns-4 c = rw (c .enum-told4 .given .1)
 
-pub given-end-spec : {M : Type 1} → statement M
-given-end-spec =
+pub offer-end-spec : {M : Type 1} → statement M
+offer-end-spec =
     tie.close
     (tie.spec enum-told enum-told-2 enum-told-3 enum-told-4 returns returns-2 returns-3 returns-4)
