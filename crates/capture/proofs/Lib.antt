@@ -1,6 +1,4 @@
 pub mod Demand1
+pub mod Sizes
 pub mod Demand3
 pub mod Needed
-pub mod TextLaws
-pub mod ListLaws
-pub mod Only

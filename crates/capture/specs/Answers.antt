@@ -1,80 +1,85 @@
--- A capture's answers: for each line its reading, its target's part, the instances that this addresses and its canonical writing.
+-- A capture's answers: each line with what `read`, `target_span`, `target`, `resolve` and `canonical` answer for it, in the room that is lent at it.
 use Prim.Native.Nat.{ℕ, suc}
+use mathlib.Core.Path.{_≡_}
 use mathlib.Core.List.{List, [], _∷_}
-use mathlib.Core.Bool.{cond}
-use lib.ListN.{length}
-use lib.Dec.{leb}
+use lib.ListN.{length, take}
+use Rattle.text.specs.declared.Answer.{Answer}
+use Rattle.text.specs.declared.Answer.the-variants as answer
 use Rattle.joiner.specs.Lines.{Given, line, refused, linesOf}
-use Rattle.reading.specs.Reading.{Reading, refusal, read, readingOf}
-use Rattle.reading.specs.Records.{readRecords, targetPart}
-use Rattle.tree.specs.Resolve.{Found, session′, nodes, foundOf}
-use Rattle.tree.specs.Resolve as resolve
-use Rattle.canonical.specs.Canonical.{itemsOf, writing}
+use Rattle.reading.specs.declared.Span.{Span}
+use Rattle.reading.specs.Reading.{readingOf}
+use Rattle.reading.specs.Records.{answerIn, roomIn, targetIn, targetPart}
+use Rattle.tree.specs.declared.Resolved.{Resolved}
+use Rattle.tree.specs.declared.Resolved.the-variants as resolved
+use Rattle.tree.specs.Resolve.{resolveOf, resolveList}
+use Rattle.canonical.specs.Canonical.{writingAnswer, writingRoom}
 
--- what a call that writes tells: the bytes that now stand at the room's start, or one refusal with its place
-pub data Told : Type 0 where
-  wrote : List ℕ → Told
-  refuses : ℕ → ℕ → Told
-
--- 19 comes last, exactly when the bytes don't fit
-unfoldable pub fits : ℕ → List ℕ → Told
-fits room t = cond (leb (length t) room) (wrote t) (refuses 19 0)
-
-abbrev pub recordsTold : ℕ → Reading → Told
-recordsTold room (refusal n p) = refuses n p
-recordsTold room (read ps) = fits room (readRecords ps)
-
-abbrev pub writingTold : ℕ → Reading → Told
-writingTold room (refusal n p) = refuses n p
-writingTold room (read ps) = fits room (writing (itemsOf ps))
-
-abbrev pub within : ℕ → Found → Found
-within room session′ = session′
-within room (nodes ms) = cond (leb (length ms) room) (nodes ms) (resolve.refused 19 0)
-within room (resolve.refused n p) = resolve.refused n p
-
--- what is lent at a line: a tree, a default target, and the sizes of the room for records, for node numbers and for the writing
+-- what is lent at a line: a tree, a default target, and room for records, for node numbers and for the writing
 pub record Lent : Type 0 where
   pub tree : List ℕ
   pub default : ℕ
-  pub recordRoom : ℕ
-  pub listRoom : ℕ
-  pub writingRoom : ℕ
+  pub forRecords : List ℕ
+  pub forNodes : List ℕ
+  pub forWriting : List ℕ
 
--- a line's whole answer
-pub record Answer : Type 0 where
-  pub records : Told
+-- the tree, the default target and the sizes of all lent room are the same; what the room holds need not be
+pub record SameLent (l m : Lent) : Type 0 where
+  pub tree : l .tree ≡ m .tree
+  pub default : l .default ≡ m .default
+  pub forRecords : length (l .forRecords) ≡ length (m .forRecords)
+  pub forNodes : length (l .forNodes) ≡ length (m .forNodes)
+  pub forWriting : length (l .forWriting) ≡ length (m .forWriting)
+
+-- how many bytes, or node numbers, stand at the room's start by an answer: on a refusal none
+abbrev pub bytesBy : Answer → ℕ
+bytesBy (answer.Wrote n) = n
+bytesBy (answer.Refused k p) = 0
+
+abbrev pub nodesBy : Resolved → ℕ
+nodesBy resolved.Session = 0
+nodesBy (resolved.Nodes n) = n
+nodesBy (resolved.Refused k p) = 0
+
+-- what the functions answer for a line, by the definitions that their promises cite: each answer, and what then stands at its room's start
+pub record LineAnswer : Type 0 where
+  pub read : Answer
+  pub records : List ℕ
+  pub span : Span
   pub target : List ℕ
-  pub instances : Found
-  pub written : Told
+  pub resolves : Resolved
+  pub instances : List ℕ
+  pub canonical : Answer
+  pub writing : List ℕ
 
-unfoldable pub lineAnswer : Lent → List ℕ → Answer
+unfoldable pub lineAnswer : Lent → List ℕ → LineAnswer
 lineAnswer l t =
+    let read = answerIn (length (l .forRecords)) (readingOf t) in
+    let resolves = resolveOf (length (l .forNodes)) (targetPart t) (l .tree) (l .default) in
+    let canonical = writingAnswer (length (l .forWriting)) (readingOf t) in
     record {
-      records = recordsTold (l .recordRoom) (readingOf t);
+      read = read;
+      records = take (bytesBy read) (roomIn (l .forRecords) (readingOf t));
+      span = targetIn (readingOf t);
       target = targetPart t;
-      instances = within (l .listRoom) (foundOf (targetPart t) (l .tree) (l .default));
-      written = writingTold (l .writingRoom) (readingOf t);
+      resolves = resolves;
+      instances = take (nodesBy resolves) (resolveList (l .forNodes) (targetPart t) (l .tree) (l .default));
+      canonical = canonical;
+      writing = take (bytesBy canonical) (writingRoom (l .forWriting) (readingOf t));
     }
 
--- an over-long line is refused as 1, at 1,024; it has no target
-unfoldable pub longAnswer : Lent → Answer
-longAnswer l =
-    record {
-      records = refuses 1 1024;
-      target = [];
-      instances = within (l .listRoom) (foundOf [] (l .tree) (l .default));
-      written = refuses 1 1024;
-    }
+-- a line's whole answer: its bytes with what the functions answer for them; or, where joining refuses it, number, place and the bytes kept
+pub data WholeAnswer : Type 0 where
+  answered : List ℕ → LineAnswer → WholeAnswer
+  notJoined : ℕ → ℕ → List ℕ → WholeAnswer
 
-abbrev pub answerOf : Lent → Given → Answer
-answerOf l (line t) = lineAnswer l t
-answerOf l (refused t) = longAnswer l
+abbrev pub answerTo : Lent → Given → WholeAnswer
+answerTo l (line t) = answered t (lineAnswer l t)
+answerTo l (refused k p t) = notJoined k p t
 
 -- one answer for each line, with what is lent at that line, by its number from k on
-unfoldable pub answersFrom : (ℕ → Lent) → ℕ → List Given → List Answer
+unfoldable pub answersFrom : (ℕ → Lent) → ℕ → List Given → List WholeAnswer
 answersFrom f k [] = []
-answersFrom f k (g ∷ gs) = answerOf (f k) g ∷ answersFrom f (suc k) gs
+answersFrom f k (g ∷ gs) = answerTo (f k) g ∷ answersFrom f (suc k) gs
 
-unfoldable pub answersOf : (ℕ → Lent) → List ℕ → List Answer
+unfoldable pub answersOf : (ℕ → Lent) → List ℕ → List WholeAnswer
 answersOf f c = answersFrom f 0 (linesOf c)

@@ -12,8 +12,9 @@ use Rattle.terms.specs.declared.Found.the-variants as found
 use Rattle.terms.specs.Rows.{lexicalOf}
 use Rattle.terms.specs.Scan.{termAt}
 use Rattle.terms.specs.Terms.{Term, termsOf}
-use Rattle.terms.specs.Going.{placeAfter, going, answerOf}
-use Rattle.terms.proofs.TermLaws.{term-within, listed}
+use Rattle.terms.specs.Going.{placeAfter, termCalls, foundTerm}
+use Rattle.terms.proofs.NextTerm.{term-within}
+use Rattle.terms.proofs.TermList.{listed}
 use Rattle.carried.specs.declared.Yielded.{Yielded}
 use Rattle.carried.specs.declared.Yielded.the-variants as yielded
 use Rattle.carried.specs.Carried.{foundAs, yieldBy, yieldAt, pastBy, pastAt, yields}
@@ -60,15 +61,15 @@ module _ (line : List ℕ) (fine : lexicalOf line ≡ Fine) where
       by (found.Term a n) = refl
       by found.None = refl
 
-  yields-going : (n at : ℕ) → yields n line at ≡ map foundAs (going n line at)
-  unfolding yields going
+  yields-going : (n at : ℕ) → yields n line at ≡ map foundAs (termCalls n line at)
+  unfolding yields termCalls
   yields-going zero at = refl
   yields-going (suc n) at =
       rw (yield-found at) (ap (λ (r : List Yielded). foundAs (termAt line at) ∷ r) (ap (yields n line) (past-found at) ∙ yields-going n (placeAfter (termAt line at) at)))
 
   -- THE LINE'S TERMS IN ORDER, AND THEN NONE, however often it is asked
   pub yields-terms : (k : ℕ)
-      → yields (length (termsOf line) + k) line 0 ≡ map foundAs (map answerOf (termsOf line) ++ replicate k found.None)
+      → yields (length (termsOf line) + k) line 0 ≡ map foundAs (map foundTerm (termsOf line) ++ replicate k found.None)
   yields-terms k = yields-going (length (termsOf line) + k) 0 ∙ ap (map foundAs) (listed line k)
 
 -- on another line, its refusal from every place, and the place stays

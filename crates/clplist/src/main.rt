@@ -1,12 +1,12 @@
 // Reads a console capture from standard input and prints each record as its kind's word and fields, to the end of the input.
-use capture::Stands;
-use capture::end_answer;
-use capture::next_answer;
-use capture::records_text;
 use joiner::Joiner;
 use libc::STDIN_FILENO;
 use libc::STDOUT_FILENO;
+use lister::Stands;
+use lister::end_answer;
+use lister::next_answer;
 use text::Answer;
+use wording::records_text;
 ghost use lib.ListN.{length};
 ghost use Prim.Native.Nat.{_≤_};
 

@@ -5,8 +5,8 @@ use native.Mathlib.Omega.{arith}
 use lib.ListN.{length, take, drop}
 use borrow.Author.Needs.{needs}
 use Rattle.text.proofs.Slices.{length-from}
-use Rattle.capture.specs.Words.{textOf}
-use Rattle.capture.proofs.TextLaws.{wrote-within}
+use Rattle.wording.specs.Words.{wordingOf}
+use Rattle.wording.proofs.WordingLaws.{wrote-within}
 use Rattle.clplist.proofs.add.Statement.{statement}
 use Rattle.clplist.proofs.add.Tie as tie
 
@@ -28,7 +28,7 @@ enum-known-a c = search needs
 add-result : tie.Need-add-result
 add-result c =
     let a = c .before .before .before .before .before .before .before .before .before .args in let w = c .before .a in let r = c .before .before .before .before .before .records-text in let l = take (length (a .text .now) - a .waiting) (drop (a .waiting) (a .text .now)) in
-    omega (arith, wrote-within (length l) (textOf (a .records .now)) (w .given .0 .0) (sym (w .given .1) ∙ r .ensures .0), length-from (a .text .now) (a .waiting), c .before .before .before .before .before .before .before .before .before .pre)
+    omega (arith, wrote-within (length l) (wordingOf (a .records .now)) (w .given .0 .0) (sym (w .given .1) ∙ r .ensures .0), length-from (a .text .now) (a .waiting), c .before .before .before .before .before .before .before .before .before .pre)
 
 enum-told : tie.Need-enum-told
 enum-told c = search needs
@@ -39,7 +39,7 @@ same-length c = search needs
 returns : tie.Need-returns
 returns c =
     let a = c .before .before .before .before .before .before .before .before .before .args in let w = c .before .a in let r = c .before .before .before .before .before .records-text in let l = take (length (a .text .now) - a .waiting) (drop (a .waiting) (a .text .now)) in
-    omega (arith, wrote-within (length l) (textOf (a .records .now)) (w .given .0 .0) (sym (w .given .1) ∙ r .ensures .0), length-from (a .text .now) (a .waiting), c .before .before .before .before .before .before .before .before .before .pre)
+    omega (arith, wrote-within (length l) (wordingOf (a .records .now)) (w .given .0 .0) (sym (w .given .1) ∙ r .ensures .0), length-from (a .text .now) (a .waiting), c .before .before .before .before .before .before .before .before .before .pre)
 
 same-length-2 : tie.Need-same-length-2
 same-length-2 c = search needs

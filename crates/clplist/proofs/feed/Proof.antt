@@ -5,7 +5,7 @@ use native.Mathlib.Omega.{arith}
 use lib.ListN.{length, take, drop}
 use borrow.Author.Needs.{needs}
 use Rattle.text.proofs.Slices.{length-from}
-use Rattle.capture.proofs.ListLaws.{list-within}
+use Rattle.lister.proofs.ListLaws.{list-within}
 use Rattle.clplist.proofs.feed.Statement.{statement}
 use Rattle.clplist.proofs.feed.Tie as tie
 

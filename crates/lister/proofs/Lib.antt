@@ -1,0 +1,3 @@
+pub mod ListLaws
+pub mod Only
+pub mod Demand1

@@ -1,0 +1,3 @@
+pub mod WordingLaws
+pub mod Only
+pub mod Demand1
