@@ -15,21 +15,21 @@ use Rattle.joiner.specs.Join.{Ran, joinOf, endOf}
 use Rattle.joiner.proofs.Reach.{to-fine}
 use Rattle.joiner.proofs.Past.{refused-whole, goes-on}
 use Rattle.reading.specs.declared.Span.{Span}
-use Rattle.capture.specs.declared.Stands.{Stands}
-use Rattle.capture.specs.declared.Listed.{Listed}
-use Rattle.capture.specs.Lister as lister
-use Rattle.capture.specs.Lister.{listOf, endStands, endRoom}
+use Rattle.lister.specs.declared.Stands.{Stands}
+use Rattle.lister.specs.declared.Listed.{Listed}
+use Rattle.lister.specs.Lister as lister
+use Rattle.lister.specs.Lister.{callOf, endStands, endRoom}
 use Rattle.clp.specs.declared.ClpAnswer.{ClpAnswer}
 use Rattle.clp.specs.declared.ClpJoined.{ClpJoined}
-use Rattle.clp.specs.State.{mark, numberOf, stateOf}
-use Rattle.clp.specs.Face.{told, none64, outcomeOf, with, noCall, joinedOf, joinFace, joinBuffer, endAnswer, endFace, term, partOf, standsOf, listedOf, listFace, listBuffer, listRoom, listEndFace, listEndRoom}
+use Rattle.clp.specs.State.{mark, stateNumber, stateOf}
+use Rattle.clp.specs.Face.{told, none64, outcomeOf, with, noCall, joinedOf, joinFace, joinBuffer, endAnswer, endFace, term, partFace, standsFace, listedOf, listFace, listBuffer, listRoom, listEndFace, listEndRoom}
 use Rattle.clp.proofs.StateLaws.{number-back}
 
 -- ---- parts of an answer
 
 pub number-told : (s : Joiner) (h g r o : ℕ) → h ≡ s .held → g ≡ mark (s .grave) 2048 → r ≡ mark (s .cr) 4096 → o ≡ mark (s .over) 8192
-    → h + g + r + o ≡ numberOf s
-unfolding numberOf
+    → h + g + r + o ≡ stateNumber s
+unfolding stateNumber
 number-told s h g r o a b c d = rw (a, b, c, d)
 
 pub told-as : {n n′ v v′ : ℕ} → n ≡ n′ → v ≡ v′ → told n v ≡ told n′ v′
@@ -41,7 +41,7 @@ with-as a x y = cc
 pub term-as : {a a′ : ClpAnswer} {n n′ : ℕ} → a ≡ a′ → n ≡ n′ → term a n ≡ term a′ n′
 term-as x y = cc
 
-pub part-as : (s : Span) (a n : ℕ) → a ≡ s .at → n ≡ s .len → record { position = a; length = n } ≡ partOf s
+pub part-as : (s : Span) (a n : ℕ) → a ≡ s .at → n ≡ s .len → record { position = a; length = n } ≡ partFace s
 part-as s a n x y = rw (x, y)
 
 -- ---- a number of 16,384 or more
@@ -89,35 +89,35 @@ module _ (n : ℕ) (h : n ≤ 16383) (s : Joiner) (i : s ≡ stateOf n) where
 
   module _ (b p : List ℕ) where
     pub join-told : (j : Joined) (a : ClpAnswer) (r : ClpJoined) → j ≡ joinOf s b p .answer → a ≡ outcomeOf (j .outcome)
-        → r ≡ with a (j .used) (numberOf (j .state)) → r ≡ joinFace n b p
+        → r ≡ with a (j .used) (stateNumber (j .state)) → r ≡ joinFace n b p
     unfolding joinFace
     join-told j a r x y z =
         rw (lt-ltb n 16384 (omega arith))
-        (z ∙ ap (λ (a : ClpAnswer). with a (j .used) (numberOf (j .state))) y ∙ ap joinedOf (x ∙ ap (λ (s : Joiner). joinOf s b p .answer) i))
+        (z ∙ ap (λ (a : ClpAnswer). with a (j .used) (stateNumber (j .state))) y ∙ ap joinedOf (x ∙ ap (λ (s : Joiner). joinOf s b p .answer) i))
 
     pub buffer-told : (c : List ℕ) → c ≡ joinOf s b p .buffer → c ≡ joinBuffer n b p
     unfolding joinBuffer
     buffer-told c x = rw (lt-ltb n 16384 (omega arith)) (x ∙ ap (λ (s : Joiner). joinOf s b p .buffer) i)
 
   module _ (b p room : List ℕ) where
-    pub list-told : (l : Listed) (a : ClpAnswer) (r : ClpJoined) → l ≡ listOf s b p room .answer → a ≡ standsOf none64 (l .stands)
-        → r ≡ with a (l .used) (numberOf (l .state)) → r ≡ listFace n b p room
+    pub list-told : (l : Listed) (a : ClpAnswer) (r : ClpJoined) → l ≡ callOf s b p room .answer → a ≡ standsFace none64 (l .stands)
+        → r ≡ with a (l .used) (stateNumber (l .state)) → r ≡ listFace n b p room
     unfolding listFace
     list-told l a r x y z =
         rw (lt-ltb n 16384 (omega arith))
-        (z ∙ ap (λ (a : ClpAnswer). with a (l .used) (numberOf (l .state))) y ∙ ap listedOf (x ∙ ap (λ (s : Joiner). listOf s b p room .answer) i))
+        (z ∙ ap (λ (a : ClpAnswer). with a (l .used) (stateNumber (l .state))) y ∙ ap listedOf (x ∙ ap (λ (s : Joiner). callOf s b p room .answer) i))
 
-    pub list-buffer-told : (c : List ℕ) → c ≡ listOf s b p room .buffer → c ≡ listBuffer n b p room
+    pub list-buffer-told : (c : List ℕ) → c ≡ callOf s b p room .buffer → c ≡ listBuffer n b p room
     unfolding listBuffer
-    list-buffer-told c x = rw (lt-ltb n 16384 (omega arith)) (x ∙ ap (λ (s : Joiner). listOf s b p room .buffer) i)
+    list-buffer-told c x = rw (lt-ltb n 16384 (omega arith)) (x ∙ ap (λ (s : Joiner). callOf s b p room .buffer) i)
 
-    pub list-room-told : (c : List ℕ) → c ≡ listOf s b p room .room → c ≡ listRoom n b p room
+    pub list-room-told : (c : List ℕ) → c ≡ callOf s b p room .room → c ≡ listRoom n b p room
     unfolding listRoom
-    list-room-told c x = rw (lt-ltb n 16384 (omega arith)) (x ∙ ap (λ (s : Joiner). listOf s b p room .room) i)
+    list-room-told c x = rw (lt-ltb n 16384 (omega arith)) (x ∙ ap (λ (s : Joiner). callOf s b p room .room) i)
 
-  pub list-end-told : (k : ℕ) (w : Stands) (r : ClpAnswer) → w ≡ endStands k (endOf s) → r ≡ standsOf 0 w → r ≡ listEndFace n k
+  pub list-end-told : (k : ℕ) (w : Stands) (r : ClpAnswer) → w ≡ endStands k (endOf s) → r ≡ standsFace 0 w → r ≡ listEndFace n k
   unfolding listEndFace
-  list-end-told k w r x y = rw (lt-ltb n 16384 (omega arith)) (y ∙ ap (standsOf 0) (x ∙ ap (λ (s : Joiner). endStands k (endOf s)) i))
+  list-end-told k w r x y = rw (lt-ltb n 16384 (omega arith)) (y ∙ ap (standsFace 0) (x ∙ ap (λ (s : Joiner). endStands k (endOf s)) i))
 
   pub end-room-told : (room c : List ℕ) → c ≡ endRoom room (endOf s) → c ≡ listEndRoom n room
   unfolding listEndRoom
@@ -144,8 +144,8 @@ join-low n s b p j i x = go (eqb (length b) 1024) (reachable s) refl refl
         omega
         (arith, ap (λ (j : Joined). j .state .held) x, to-fine (joinOf s b p .answer .state) (goes-on s b p (eqb-true (length b) 1024 e) k .1) .within)
 
-pub list-low : (n : ℕ) (s : Joiner) (b p room : List ℕ) (l : Listed) → s ≡ stateOf n → l ≡ listOf s b p room .answer → l .state .held < 2048
-unfolding listOf
+pub list-low : (n : ℕ) (s : Joiner) (b p room : List ℕ) (l : Listed) → s ≡ stateOf n → l ≡ callOf s b p room .answer → l .state .held < 2048
+unfolding callOf
 list-low n s b p room l i x = go (leb 399 (length room)) (lister.fit s b) x
   where
     low : l .state .held ≡ s .held → l .state .held < 2048
@@ -175,7 +175,7 @@ unfit-end : (n : ℕ) → ltb n 16384 ≡ true → reachable (stateOf n) ≡ fal
 unfolding endFace endOf
 unfit-end n e f = rw (e, f)
 
-pub no-state : (n : ℕ) (b p : List ℕ) → ((s : Joiner) → reachable s ≡ true → numberOf s ≡ n → ⊥)
+pub no-state : (n : ℕ) (b p : List ℕ) → ((s : Joiner) → reachable s ≡ true → stateNumber s ≡ n → ⊥)
     → (joinFace n b p ≡ noCall n) × (joinBuffer n b p ≡ b) × (endFace n ≡ told 19 0)
 no-state n b p never = go (ltb n 16384) (reachable (stateOf n)) refl refl
   where
@@ -189,13 +189,27 @@ no-state n b p never = go (ltb n 16384) (reachable (stateOf n)) refl refl
         let r = unfit n b p (rw f (and-false (eqb (length b) 1024))) in
         (r .0, r .1, unfit-end n e f)
 
+-- the same of a lister's end
+unfit-list-end : (n k : ℕ) (room : List ℕ) → ltb n 16384 ≡ true → reachable (stateOf n) ≡ false → (listEndFace n k ≡ told 19 0) × (listEndRoom n room ≡ room)
+unfolding listEndFace listEndRoom endOf
+unfit-list-end n k room e f = (rw (e, f), rw (e, f))
+
+pub no-state-end : (n k : ℕ) (room : List ℕ) → ((s : Joiner) → reachable s ≡ true → stateNumber s ≡ n → ⊥)
+    → (listEndFace n k ≡ told 19 0) × (listEndRoom n room ≡ room)
+no-state-end n k room never = go (ltb n 16384) (reachable (stateOf n)) refl refl
+  where
+    go : (t u : Bool) → ltb n 16384 ≡ t → reachable (stateOf n) ≡ u → (listEndFace n k ≡ told 19 0) × (listEndRoom n room ≡ room)
+    go false u e f = let h : 16383 < n = omega (arith, ltb-false n 16384 e) in (sym (none-list-end n h k), sym (none-end-room n h room))
+    go true true e f = absurd (never (stateOf n) f (number-back n (ltb-true n 16384 e)))
+    go true false e f = unfit-list-end n k room e f
+
 -- the same of a lister, and of a room below 399 bytes
 pub unfit-list : (n : ℕ) (b p room : List ℕ) → leb 399 (length room) && lister.fit (stateOf n) b ≡ false
     → (listFace n b p room ≡ noCall n) × (listBuffer n b p room ≡ b) × (listRoom n b p room ≡ room)
-unfolding listFace listBuffer listRoom listOf
+unfolding listFace listBuffer listRoom callOf
 unfit-list n b p room e = go (ltb n 16384) (leb 399 (length room)) (lister.fit (stateOf n) b) refl e
   where
-    told-of : Bool → Bool → lister.Told
+    told-of : Bool → Bool → lister.Call
     told-of t u =
         cond t (cond u (lister.joined (joinOf (stateOf n) b p) room) (lister.refused19 (stateOf n) b room)) (lister.refused19 (stateOf n) b room)
 

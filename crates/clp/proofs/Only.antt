@@ -36,6 +36,9 @@ use Rattle.clp.proofs.clp_target.Reads as clp-target-reads
 use Rattle.clp.proofs.clp_canonical as clp-canonical-fn
 use Rattle.clp.proofs.clp_canonical.Kinds as clp-canonical-kinds
 use Rattle.clp.proofs.clp_canonical.Reads as clp-canonical-reads
+use Rattle.clp.proofs.clp_meant as clp-meant-fn
+use Rattle.clp.proofs.clp_meant.Kinds as clp-meant-kinds
+use Rattle.clp.proofs.clp_meant.Reads as clp-meant-reads
 use Rattle.clp.proofs.clp_list as clp-list-fn
 use Rattle.clp.proofs.clp_list.Kinds as clp-list-kinds
 use Rattle.clp.proofs.clp_list.Reads as clp-list-reads
@@ -122,6 +125,14 @@ pub clp-canonical-only :
     → clp-canonical-reads.Post κs a r s → clp-canonical-reads.Post κs a r′ s′
     → (r ≡ r′) × (now (s .1 .0) ≡ now (s′ .1 .0))
 clp-canonical-only κs a r r′ s s′ p q = (p .0 ∙ sym (q .0), p .1 ∙ sym (q .1))
+
+pub clp-meant-only :
+    (κs : Lifetimes.Lfts 2) (a : World.ArgsD clp-meant-fn.signature κs)
+    (r r′ : World.ResD clp-meant-fn.signature κs)
+    (s s′ : Clauses.AtExit (Kinds.endedOf 2 clp-meant-kinds.ps clp-meant-kinds.r) κs)
+    → clp-meant-reads.Post κs a r s → clp-meant-reads.Post κs a r′ s′
+    → (r ≡ r′) × (now (s .1 .0) ≡ now (s′ .1 .0))
+clp-meant-only κs a r r′ s s′ p q = (p .0 ∙ sym (q .0), p .1 ∙ sym (q .1))
 
 pub clp-list-only :
     (κs : Lifetimes.Lfts 3) (a : World.ArgsD clp-list-fn.signature κs)

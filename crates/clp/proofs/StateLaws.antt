@@ -8,7 +8,7 @@ use lib.Dec.{eqb}
 use Rattle.joiner.specs.declared.Joiner.{Joiner}
 use Rattle.joiner.specs.Step.{st, reachable}
 use Rattle.joiner.proofs.Reach.{to-fine}
-use Rattle.clp.specs.State.{mark, numberOf, stateOf}
+use Rattle.clp.specs.State.{mark, stateNumber, stateOf}
 
 -- a flag as 0 or 1
 abbrev bit : Bool → ℕ
@@ -38,8 +38,8 @@ mark-bits g r o = (go-g g, go-r r, go-o o)
     go-o false = refl
 
 -- a state's number by its parts
-number-bits : (s : Joiner) → numberOf s ≡ s .held + 2048 * bit (s .grave) + 4096 * bit (s .cr) + 8192 * bit (s .over)
-unfolding numberOf
+number-bits : (s : Joiner) → stateNumber s ≡ s .held + 2048 * bit (s .grave) + 4096 * bit (s .cr) + 8192 * bit (s .over)
+unfolding stateNumber
 number-bits s = let m = mark-bits (s .grave) (s .cr) (s .over) in rw (m .0, m .1, m .2)
 
 -- the parts of a number
@@ -57,11 +57,11 @@ module _ (n h g r o : ℕ) (e : n ≡ h + 2048 * g + 4096 * r + 8192 * o) (hh : 
   third = omega arith
 
 -- A STATE'S NUMBER LEADS BACK TO IT
-pub state-back : (s : Joiner) → s .held < 2048 → stateOf (numberOf s) ≡ s
+pub state-back : (s : Joiner) → s .held < 2048 → stateOf (stateNumber s) ≡ s
 unfolding stateOf
 state-back s h =
     let e = number-bits s in
-    let n = numberOf s in
+    let n = stateNumber s in
     let g = bit (s .grave) in
     let r = bit (s .cr) in
     let o = bit (s .over) in
@@ -75,15 +75,15 @@ state-back s h =
     all a b c d = cc
 
 -- every state that a capture leads to
-pub led-back : (s : Joiner) → reachable s ≡ true → stateOf (numberOf s) ≡ s
+pub led-back : (s : Joiner) → reachable s ≡ true → stateOf (stateNumber s) ≡ s
 led-back s h = state-back s (omega (arith, to-fine s h .within))
 
 -- distinct states have distinct numbers
-pub one-number : (s t : Joiner) → reachable s ≡ true → reachable t ≡ true → numberOf s ≡ numberOf t → s ≡ t
+pub one-number : (s t : Joiner) → reachable s ≡ true → reachable t ≡ true → stateNumber s ≡ stateNumber t → s ≡ t
 one-number s t h k e = sym (led-back s h) ∙ ap stateOf e ∙ led-back t k
 
 -- such a number is below 16,384
-pub number-below : (s : Joiner) → reachable s ≡ true → numberOf s < 16384
+pub number-below : (s : Joiner) → reachable s ≡ true → stateNumber s < 16384
 number-below s h =
     omega (arith, number-bits s, to-fine s h .within, bit-most (s .grave), bit-most (s .cr), bit-most (s .over))
 
@@ -102,7 +102,7 @@ eighth n = omega arith
 parts-sum : (n : ℕ) → n < 16384 → n % 2048 + 2048 * (n / 2048 % 2) + 4096 * (n / 4096 % 2) + 8192 * (n / 8192 % 2) ≡ n
 parts-sum n h = rw (quarter n, eighth n) (omega arith)
 
-pub number-back : (n : ℕ) → n < 16384 → numberOf (stateOf n) ≡ n
+pub number-back : (n : ℕ) → n < 16384 → stateNumber (stateOf n) ≡ n
 unfolding stateOf
 number-back n h =
     let g = marked-bit (n / 2048 % 2) (omega arith) in

@@ -19,15 +19,15 @@ use Rattle.tree.specs.declared.Checked.the-variants as checked
 use Rattle.tree.specs.declared.Resolved.{Resolved}
 use Rattle.tree.specs.declared.Resolved.the-variants as resolved
 use Rattle.reading.specs.declared.Span.{Span}
-use Rattle.capture.specs.declared.Stands.{Stands}
-use Rattle.capture.specs.declared.Stands.the-variants as stands
-use Rattle.capture.specs.declared.Listed.{Listed}
-use Rattle.capture.specs.Lister.{listOf, endStands, endRoom}
+use Rattle.lister.specs.declared.Stands.{Stands}
+use Rattle.lister.specs.declared.Stands.the-variants as stands
+use Rattle.lister.specs.declared.Listed.{Listed}
+use Rattle.lister.specs.Lister.{callOf, endStands, endRoom}
 use Rattle.clp.specs.declared.ClpAnswer.{ClpAnswer}
 use Rattle.clp.specs.declared.ClpJoined.{ClpJoined}
 use Rattle.clp.specs.declared.ClpTerm.{ClpTerm}
 use Rattle.clp.specs.declared.ClpPart.{ClpPart}
-use Rattle.clp.specs.State.{numberOf, stateOf}
+use Rattle.clp.specs.State.{stateNumber, stateOf}
 
 abbrev pub told : ℕ → ℕ → ClpAnswer
 told n v = record { number = n; value = v }
@@ -54,7 +54,7 @@ abbrev pub with : ClpAnswer → ℕ → ℕ → ClpJoined
 with a used state = record { number = a .number; value = a .value; used = used; state = state }
 
 abbrev pub joinedOf : Joined → ClpJoined
-joinedOf j = with (outcomeOf (j .outcome)) (j .used) (numberOf (j .state))
+joinedOf j = with (outcomeOf (j .outcome)) (j .used) (stateNumber (j .state))
 
 -- nothing used, and the state as it was
 abbrev pub noCall : ℕ → ClpJoined
@@ -100,32 +100,32 @@ resolvedOf (resolved.Refused n p) = told n p
 
 -- ---- a part of a line
 
-abbrev pub partOf : Span → ClpPart
-partOf s = record { position = s .at; length = s .len }
+abbrev pub partFace : Span → ClpPart
+partFace s = record { position = s .at; length = s .len }
 
 -- ---- a lister: how many bytes of records stand in the room, or the value that is no length
 
-abbrev pub standsOf : ℕ → Stands → ClpAnswer
-standsOf none stands.Nothing = told 0 none
-standsOf none (stands.Records n) = told 0 n
-standsOf none (stands.Refused n p) = told n p
+abbrev pub standsFace : ℕ → Stands → ClpAnswer
+standsFace none stands.Nothing = told 0 none
+standsFace none (stands.Records n) = told 0 n
+standsFace none (stands.Refused n p) = told n p
 
 abbrev pub listedOf : Listed → ClpJoined
-listedOf l = with (standsOf none64 (l .stands)) (l .used) (numberOf (l .state))
+listedOf l = with (standsFace none64 (l .stands)) (l .used) (stateNumber (l .state))
 
 unfoldable pub listFace : ℕ → List ℕ → List ℕ → List ℕ → ClpJoined
-listFace n buffer part room = cond (ltb n 16384) (listedOf (listOf (stateOf n) buffer part room .answer)) (noCall n)
+listFace n buffer part room = cond (ltb n 16384) (listedOf (callOf (stateOf n) buffer part room .answer)) (noCall n)
 
 unfoldable pub listBuffer : ℕ → List ℕ → List ℕ → List ℕ → List ℕ
-listBuffer n buffer part room = cond (ltb n 16384) (listOf (stateOf n) buffer part room .buffer) buffer
+listBuffer n buffer part room = cond (ltb n 16384) (callOf (stateOf n) buffer part room .buffer) buffer
 
 unfoldable pub listRoom : ℕ → List ℕ → List ℕ → List ℕ → List ℕ
-listRoom n buffer part room = cond (ltb n 16384) (listOf (stateOf n) buffer part room .room) room
+listRoom n buffer part room = cond (ltb n 16384) (callOf (stateOf n) buffer part room .room) room
 
 -- at the end: 1, a cut's record, or 0
 
 unfoldable pub listEndFace : ℕ → ℕ → ClpAnswer
-listEndFace n room = cond (ltb n 16384) (standsOf 0 (endStands room (endOf (stateOf n)))) (told 19 0)
+listEndFace n room = cond (ltb n 16384) (standsFace 0 (endStands room (endOf (stateOf n)))) (told 19 0)
 
 unfoldable pub listEndRoom : ℕ → List ℕ → List ℕ
 listEndRoom n room = cond (ltb n 16384) (endRoom room (endOf (stateOf n))) room

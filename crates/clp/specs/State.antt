@@ -10,13 +10,13 @@ use Rattle.joiner.specs.Step.{st}
 abbrev pub mark : Bool → ℕ → ℕ
 mark b w = cond b w 0
 
-unfoldable pub numberOf : Joiner → ℕ
-numberOf s = s .held + mark (s .grave) 2048 + mark (s .cr) 4096 + mark (s .over) 8192
+unfoldable pub stateNumber : Joiner → ℕ
+stateNumber s = s .held + mark (s .grave) 2048 + mark (s .cr) 4096 + mark (s .over) 8192
 
 -- whether a number has a flag set
-abbrev pub marked : ℕ → ℕ → Bool
-marked n w = eqb (n / w % 2) 1
+abbrev pub flagged : ℕ → ℕ → Bool
+flagged n w = eqb (n / w % 2) 1
 
 -- the state of a number below 16,384
 unfoldable pub stateOf : ℕ → Joiner
-stateOf n = st (n % 2048) (marked n 2048) (marked n 4096) (marked n 8192)
+stateOf n = st (n % 2048) (flagged n 2048) (flagged n 4096) (flagged n 8192)

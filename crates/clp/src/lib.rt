@@ -1,10 +1,10 @@
 // The C face: exported functions on numbers and slices, as include/clp.h has them, each thin over a proved crate.
-use capture::Stands;
 use carried::Yielded;
 use carried::yield_at;
 use joiner::End;
 use joiner::Joiner;
 use joiner::Outcome;
+use lister::Stands;
 use reading::Span;
 use text::Answer;
 use tree::Checked;
@@ -12,16 +12,18 @@ use tree::Resolved;
 ghost use mathlib.Core.Path.{_≡_};
 ghost use Prim.Native.Nat.{_<_, _≤_};
 ghost use lib.ListN.{length};
+ghost use Rattle.text.specs.Room.{fitted, filled};
+ghost use Rattle.terms.specs.Signs.{meant};
 ghost use Rattle.carried.specs.Carried.{yieldAt};
 ghost use Rattle.tree.specs.Tree.{checkTree};
 ghost use Rattle.tree.specs.Path.{pathAnswer, pathRoom};
 ghost use Rattle.tree.specs.Resolve.{resolveOf, resolveList};
 ghost use Rattle.reading.specs.Reading.{readingOf};
 ghost use Rattle.reading.specs.Records.{answerIn, roomIn, targetIn};
-ghost use Rattle.capture.specs.Words.{textOf, textAnswer, textRoom};
+ghost use Rattle.wording.specs.Words.{wordingOf, textAnswer, textRoom};
 ghost use Rattle.canonical.specs.Canonical.{writingAnswer, writingRoom};
-ghost use Rattle.clp.specs.State.{mark, numberOf, stateOf};
-ghost use Rattle.clp.specs.Face.{told, answerOf, outcomeOf, with, noCall, joinFace, joinBuffer, endAnswer, endFace, term, termOf, checkedOf, resolvedOf, partOf, standsOf, listFace, listBuffer, listRoom, listEndFace, listEndRoom};
+ghost use Rattle.clp.specs.State.{mark, stateNumber, stateOf};
+ghost use Rattle.clp.specs.Face.{told, answerOf, outcomeOf, with, noCall, joinFace, joinBuffer, endAnswer, endFace, term, termOf, checkedOf, resolvedOf, partFace, standsFace, listFace, listBuffer, listRoom, listEndFace, listEndRoom};
 
 // What every function answers: number 0 and a value, or a refusal's number and its place.
 #[repr(C)]
@@ -110,7 +112,7 @@ fn mark(flag: bool, weight: u64) -> u64
 
 fn number_of(s: Joiner) -> u64
     requires { ⌜ s .held < 2048 ⌝ }
-    ensures { λ r. ⌜ r ≡ numberOf s ⌝ }
+    ensures { λ r. ⌜ r ≡ stateNumber s ⌝ }
 {
     wide(s.held) + mark(s.grave, 2048) + mark(s.cr, 4096) + mark(s.over, 8192)
 }
@@ -139,7 +141,7 @@ fn outcome_of(o: Outcome) -> ClpAnswer
 // An answer with the bytes used and the state.
 fn joined(a: ClpAnswer, used: usize, s: Joiner) -> ClpJoined
     requires { ⌜ s .held < 2048 ⌝ }
-    ensures { λ r. ⌜ r ≡ with a used (numberOf s) ⌝ }
+    ensures { λ r. ⌜ r ≡ with a used (stateNumber s) ⌝ }
 {
     ClpJoined {
         number: a.number,
@@ -209,7 +211,7 @@ pub extern "C" fn clp_read(line: &[u8], room: &mut [u8]) -> ClpAnswer
 }
 
 fn part_of(s: Span) -> ClpPart
-    ensures { λ r. ⌜ r ≡ partOf s ⌝ }
+    ensures { λ r. ⌜ r ≡ partFace s ⌝ }
 {
     ClpPart {
         position: wide(s.at),
@@ -220,7 +222,7 @@ fn part_of(s: Span) -> ClpPart
 // The target's own part of a line.
 #[no_mangle]
 pub extern "C" fn clp_target(line: &[u8]) -> ClpPart
-    ensures { λ r. ⌜ r ≡ partOf (targetIn (readingOf (now (line .entry)))) ⌝ }
+    ensures { λ r. ⌜ r ≡ partFace (targetIn (readingOf (now (line .entry)))) ⌝ }
 {
     part_of(reading::target_span(line))
 }
@@ -263,6 +265,15 @@ pub extern "C" fn clp_canonical(line: &[u8], room: &mut [u8]) -> ClpAnswer
     ensures { λ r. ⌜ now (room .exit) ≡ writingRoom (now (room .entry)) (readingOf (now (line .entry))) ⌝ }
 {
     answer_of(canonical::canonical(line, room))
+}
+
+// Writes the bytes that a text stands for: quote marks taken out, each escaped byte for its pair.
+#[no_mangle]
+pub extern "C" fn clp_meant(text: &[u8], room: &mut [u8]) -> ClpAnswer
+    ensures { λ r. ⌜ r ≡ answerOf (fitted (length (now (room .entry))) (meant (now (text .entry)))) ⌝ }
+    ensures { λ r. ⌜ now (room .exit) ≡ filled (now (room .entry)) (meant (now (text .entry))) ⌝ }
+{
+    answer_of(terms::write_meant(text, room))
 }
 
 // ---- the tree
@@ -322,15 +333,15 @@ pub extern "C" fn clp_full_path(tree: &[u8], node: usize, room: &mut [u8]) -> Cl
 // Writes records as text.
 #[no_mangle]
 pub extern "C" fn clp_records_text(records: &[u8], room: &mut [u8]) -> ClpAnswer
-    ensures { λ r. ⌜ r ≡ answerOf (textAnswer (length (now (room .entry))) (textOf (now (records .entry)))) ⌝ }
-    ensures { λ r. ⌜ now (room .exit) ≡ textRoom (now (room .entry)) (textOf (now (records .entry))) ⌝ }
+    ensures { λ r. ⌜ r ≡ answerOf (textAnswer (length (now (room .entry))) (wordingOf (now (records .entry)))) ⌝ }
+    ensures { λ r. ⌜ now (room .exit) ≡ textRoom (now (room .entry)) (wordingOf (now (records .entry))) ⌝ }
 {
-    answer_of(capture::records_text(records, room))
+    answer_of(wording::records_text(records, room))
 }
 
 // What stands in the room: so many bytes of records; `none` where there are none.
 fn stands_of(none: u64, s: Stands) -> ClpAnswer
-    ensures { λ r. ⌜ r ≡ standsOf none s ⌝ }
+    ensures { λ r. ⌜ r ≡ standsFace none s ⌝ }
 {
     match s {
         Stands::Nothing => gives(none),
@@ -349,7 +360,7 @@ pub extern "C" fn clp_list(state: u64, buffer: &mut [u8], part: &[u8], room: &mu
     if 16383 < state {
         return no_call(state);
     }
-    let l = capture::next_answer(state_of(state), buffer, part, room);
+    let l = lister::next_answer(state_of(state), buffer, part, room);
     let w = l.stands;
     let s = l.state;
     joined(stands_of(NONE, w), l.used, s)
@@ -364,5 +375,5 @@ pub extern "C" fn clp_list_end(state: u64, room: &mut [u8]) -> ClpAnswer
     if 16383 < state {
         return refused(19, 0);
     }
-    stands_of(0, capture::end_answer(state_of(state), room))
+    stands_of(0, lister::end_answer(state_of(state), room))
 }

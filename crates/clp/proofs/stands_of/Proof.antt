@@ -1,5 +1,5 @@
 use mathlib.Core.Path.{sym, ap, _∙_}
-use Rattle.clp.specs.Face.{told, standsOf}
+use Rattle.clp.specs.Face.{told, standsFace}
 use borrow.Author.Needs.{needs}
 use Rattle.clp.proofs.stands_of.Statement.{statement}
 use Rattle.clp.proofs.stands_of.Tie as tie
@@ -34,15 +34,15 @@ refused-requires c κs = search needs
 
 -- src/lib.rt:322:1
 returns : tie.Need-returns
-returns c = c .gives .ensures ∙ sym (ap (standsOf _) (c .before .enum-told .given .1))
+returns c = c .gives .ensures ∙ sym (ap (standsFace _) (c .before .enum-told .given .1))
 
 -- src/lib.rt:322:1
 returns-2 : tie.Need-returns-2
-returns-2 c = c .gives2 .ensures ∙ ap (told 0) (c .before .wide .ensures) ∙ sym (ap (standsOf _) (c .before .before .before .s .given .1))
+returns-2 c = c .gives2 .ensures ∙ ap (told 0) (c .before .wide .ensures) ∙ sym (ap (standsFace _) (c .before .before .before .s .given .1))
 
 -- src/lib.rt:322:1
 returns-3 : tie.Need-returns-3
-returns-3 c = c .refused .ensures ∙ sym (ap (standsOf _) (c .before .before .s2 .given .1))
+returns-3 c = c .refused .ensures ∙ sym (ap (standsFace _) (c .before .before .s2 .given .1))
 
 pub stands-of-spec : {M : Type 1} → statement M
 stands-of-spec =
