@@ -1,18 +1,12 @@
-/* A libFuzzer harness on the C face: every function on every input, held against what the header promises.
- * The input's first bytes choose sizes and cuts; the rest is taken as a capture, a line, a tree and a text. A broken promise aborts. */
+/* A libFuzzer harness on the C face: every function on every input, held against what include/clp.h promises. The input's first bytes choose a state,
+ * sizes and cuts; the rest is taken as a capture, a line, a tree with a text, and records. A broken promise aborts.
+ * What is lent is followed and preceded by bytes that must stay as they are; where the library is instrumented too, reading them is caught as well. */
+#include <sanitizer/asan_interface.h>
 #include <stdint.h>
 #include <stdlib.h>
 #include <string.h>
 #include "clp.h"
-
-enum { CANARY = 16, ROOM = 8192 };
-
-/* Lent memory with canary bytes on both sides, and a copy of what it held at the start. */
-typedef struct {
-    uint8_t bytes[CANARY + ROOM + CANARY];
-    uint8_t before[CANARY + ROOM + CANARY];
-    size_t length;
-} lent;
+#include "places.h"
 
 static void check(int holds)
 {
@@ -20,150 +14,389 @@ static void check(int holds)
         abort();
 }
 
-static uint8_t *lend(lent *l, size_t length, uint8_t fill)
+/* ---- lent memory */
+
+enum { EDGE = 32, MOST = 16384 };
+
+/* Bytes between two edges, with a copy of what they held at the start. */
+typedef struct {
+    uint8_t bytes[EDGE + MOST + EDGE], before[EDGE + MOST + EDGE];
+    size_t length;
+} lent;
+
+/* Opens the edges again. */
+static void take_back(lent *l)
 {
-    memset(l->bytes, fill, sizeof l->bytes);
-    memcpy(l->before, l->bytes, sizeof l->bytes);
+    ASAN_UNPOISON_MEMORY_REGION(l->bytes, EDGE + l->length + EDGE);
+}
+
+/* Guards the edges, and gives the pointer to lend: null where the length is 0. */
+static uint8_t *guard(lent *l)
+{
+    ASAN_POISON_MEMORY_REGION(l->bytes, EDGE);
+    ASAN_POISON_MEMORY_REGION(l->bytes + EDGE + l->length, EDGE);
+    return l->length == 0 ? 0 : l->bytes + EDGE;
+}
+
+/* Lends a room with a fill that no answer leaves by chance. */
+static uint8_t *lend_room(lent *l, size_t length, uint8_t fill)
+{
+    check(length <= MOST);
+    take_back(l);
     l->length = length;
-    return l->bytes + CANARY;
+    memset(l->bytes, 0x80 + fill, EDGE + length + EDGE);
+    memset(l->before, 0x80 + fill, EDGE + length + EDGE);
+    return guard(l);
 }
 
-/* Nothing has changed past the first `wrote` bytes of the room, nor around it. */
-static void kept_past(const lent *l, size_t wrote)
+/* Lends a copy of some bytes, to be read. */
+static const uint8_t *lend_copy(lent *l, const uint8_t *bytes, size_t length)
 {
-    check(wrote <= l->length);
-    check(memcmp(l->bytes, l->before, CANARY) == 0);
-    check(memcmp(l->bytes + CANARY + wrote, l->before + CANARY + wrote, sizeof l->bytes - CANARY - wrote) == 0);
+    check(length <= MOST);
+    take_back(l);
+    l->length = length;
+    if (length > 0)
+        memcpy(l->bytes + EDGE, bytes, length);
+    return guard(l);
 }
 
-/* A function that writes: on a refusal nothing has changed, otherwise nothing past what it says. */
-static void kept(const lent *l, clp_answer a)
+/* Takes a room back: nothing has changed but its first bytes, which are given. */
+static const uint8_t *wrote(lent *l, size_t length)
 {
-    kept_past(l, a.number == 0 ? (size_t)a.value : 0);
+    check(length <= l->length);
+    take_back(l);
+    check(memcmp(l->bytes, l->before, EDGE) == 0);
+    check(memcmp(l->bytes + EDGE + length, l->before + EDGE + length, l->length - length + EDGE) == 0);
+    return l->bytes + EDGE;
 }
 
-static lent first, second, third;
-
-static void on_line(const uint8_t *line, size_t n, size_t room)
+/* The same by an answer: a refusal changes nothing. */
+static const uint8_t *written(lent *l, clp_answer a)
 {
-    uint8_t *out = lend(&first, room, 0xA5);
-    clp_answer read = clp_read(line, n, out, room);
-    kept(&first, read);
-    check(read.number <= CLP_REFUSED_PROPERTIES || read.number == CLP_REFUSED_ROOM);
-    if (read.number == 0)
-        check(read.value <= CLP_READING_BYTES);
-    else
-        check(read.value <= n);
+    return wrote(l, a.number == 0 ? (size_t)a.value : 0);
+}
 
+static lent text, other, room, buffer, kept;
+
+static size_t smaller(size_t a, size_t b)
+{
+    return a < b ? a : b;
+}
+
+static int same(clp_answer a, clp_answer b)
+{
+    return a.number == b.number && a.value == b.value;
+}
+
+static int is(clp_answer a, uint64_t number, uint64_t value)
+{
+    return a.number == number && a.value == value;
+}
+
+/* ---- records */
+
+/* The length of the record that so many bytes begin with, 0 where there is none. */
+static size_t record_len(const uint8_t *records, size_t left)
+{
+    static const uint8_t lengths[] = {0, CLP_VERB_BYTES, CLP_OPTION_BYTES, CLP_TARGET_BYTES, CLP_PROPERTY_BYTES,
+                                      CLP_REFUSAL_BYTES, CLP_BLANK_BYTES, CLP_CUT_BYTES};
+    size_t length = records[0] < sizeof lengths ? lengths[records[0]] : 0;
+    return length <= left ? length : 0;
+}
+
+static void on_records(const uint8_t *records, size_t n, size_t room_len)
+{
+    size_t at = 0, length, lines = 0, i;
+    clp_answer full, a;
+    const uint8_t *out;
+    n = smaller(n, MOST / 6);
+    while (at < n && (length = record_len(records + at, n - at)) > 0) {
+        at += length;
+        lines++;
+    }
+    full = clp_records_text(lend_copy(&text, records, n), n, lend_room(&room, MOST, 1), MOST);
+    out = written(&room, full);
+    if (at < n) {
+        check(is(full, CLP_REFUSED_TREE, at));
+    } else {
+        check(full.number == 0 && full.value <= 6 * n);
+        for (i = 0; i < full.value; i++)
+            lines -= out[i] == '\n';
+        check(lines == 0);
+    }
+    a = clp_records_text(lend_copy(&text, records, n), n, lend_room(&room, room_len, 2), room_len);
+    written(&room, a);
+    check(full.number == 0 && full.value > room_len ? is(a, CLP_REFUSED_ROOM, 0) : same(a, full));
+}
+
+/* The records of a line that is not refused: parts in order inside the line, the verb and the options in its first terms. */
+static void on_reading(const uint8_t *line, size_t n, const uint8_t *records, size_t records_len)
+{
+    size_t at = 0, i = 0, length;
     clp_part target = clp_target(line, n);
-    check(target.position + target.length <= n);
+    int targets = 0;
+    for (; i < records_len; i += length) {
+        const uint8_t *r = records + i;
+        clp_term t = clp_next_term(line, n, at);
+        length = record_len(r, records_len - i);
+        check(length > 0 && r[0] != CLP_KIND_REFUSAL && r[0] != CLP_KIND_CUT && t.number == 0);
+        if (r[0] == CLP_KIND_BLANK) {
+            check(records_len == CLP_BLANK_BYTES && t.value == CLP_NONE);
+            continue;
+        }
+        check(t.value != CLP_NONE && t.value >= at);
+        at = t.value + t.length;
+        switch (r[0]) {
+        case CLP_KIND_VERB:
+            check(i == 0 && r[1] >= CLP_VERB_CD && r[1] <= CLP_VERB_VERSION);
+            break;
+        case CLP_KIND_OPTION:
+            check(line[t.value] == '-' && r[1] >= CLP_OPTION_ALL && r[1] <= CLP_OPTION_WAIT && CLP_FIELD(r + 2) >= at);
+            at = CLP_FIELD(r + 2) + CLP_FIELD(r + 4);
+            break;
+        case CLP_KIND_TARGET:
+            check(CLP_FIELD(r + 1) == t.value && CLP_FIELD(r + 3) == t.length && target.position == t.value && target.length == t.length);
+            targets++;
+            break;
+        default:
+            check(CLP_FIELD(r + 1) == t.value && r[5] <= CLP_OPERATOR_EQUALS);
+            check(CLP_FIELD(r + 6) == CLP_FIELD(r + 1) + CLP_FIELD(r + 3) + r[5] && CLP_FIELD(r + 6) + CLP_FIELD(r + 8) == at);
+        }
+        check(at <= n);
+    }
+    check(targets == (target.length > 0));
+}
+
+/* ---- a line */
+
+static void on_line(const uint8_t *bytes, size_t n, size_t room_len, size_t place)
+{
+    static uint8_t records[CLP_READING_BYTES], writing[CLP_CANONICAL_BYTES];
+    const uint8_t *line = lend_copy(&text, bytes, n);
+    clp_answer full = clp_read(line, n, lend_room(&room, CLP_READING_BYTES, 3), CLP_READING_BYTES), a, w;
+    clp_term t;
+    clp_part target;
+    memcpy(records, written(&room, full), sizeof records);
+    check(full.number <= CLP_REFUSED_PROPERTIES && full.value <= (full.number == 0 ? CLP_READING_BYTES : n));
+    a = clp_read(line, n, lend_room(&room, room_len, 4), room_len);
+    written(&room, a);
+    check(full.number == 0 && full.value > room_len ? is(a, CLP_REFUSED_ROOM, 0) : same(a, full));
+    target = clp_target(line, n);
+    if (full.number == 0)
+        on_reading(line, n, records, (size_t)full.value);
+    else
+        check(target.position == 0 && target.length == 0);
+
+    /* from any place: a term at or after it, none, or the line's refusal by rows 1 to 5 */
+    t = clp_next_term(line, n, place);
+    if (t.number == 0 && t.value != CLP_NONE)
+        check(t.value >= place && t.length > 0 && t.value + t.length <= n);
+    else
+        check(t.length == 0);
+    check((full.number >= 1 && full.number <= 5) == (t.number != 0) && (t.number == 0 || (t.number == full.number && t.value == full.value)));
 
     /* a writing of at most 1,024 bytes reads back as the same command, so it is its own writing */
-    uint8_t *once = lend(&second, ROOM, 0x5A);
-    clp_answer written = clp_canonical(line, n, once, ROOM);
-    kept(&second, written);
-    if (written.number == 0 && written.value <= CLP_LINE_BYTES) {
-        uint8_t *twice = lend(&third, ROOM, 0x3C);
-        clp_answer again = clp_canonical(once, written.value, twice, ROOM);
-        kept(&third, again);
-        check(again.number == 0 && again.value == written.value && memcmp(once, twice, written.value) == 0);
-        clp_answer short_room = {0, 0};
-        if (written.value > 0) {
-            lend(&third, written.value - 1, 0x3C);
-            short_room = clp_canonical(line, n, third.bytes + CANARY, written.value - 1);
-            kept(&third, short_room);
-            check(short_room.number == CLP_REFUSED_ROOM);
-        }
+    w = clp_canonical(line, n, lend_room(&room, CLP_CANONICAL_BYTES, 5), CLP_CANONICAL_BYTES);
+    memcpy(writing, written(&room, w), sizeof writing);
+    check(full.number == 0 ? w.number == 0 : same(w, full));
+    a = clp_canonical(line, n, lend_room(&room, room_len, 6), room_len);
+    written(&room, a);
+    check(w.number == 0 && w.value > room_len ? is(a, CLP_REFUSED_ROOM, 0) : same(a, w));
+    if (w.number == 0) {
+        size_t length = (size_t)w.value;
+        a = clp_canonical(lend_copy(&other, writing, length), length, lend_room(&room, CLP_CANONICAL_BYTES, 7), CLP_CANONICAL_BYTES);
+        if (length <= CLP_LINE_BYTES)
+            check(same(a, w) && memcmp(written(&room, a), writing, length) == 0);
+        else
+            check(is(a, CLP_REFUSED_LONG_LINE, CLP_LINE_BYTES) && written(&room, a));
     }
 
-    /* terms stand in order inside the line */
-    size_t at = 0;
-    for (int i = 0; i < 70; i++) {
-        clp_term term = clp_next_term(line, n, at);
-        if (term.number != 0 || term.value == CLP_NONE)
-            break;
-        check(term.value >= at && term.length > 0 && term.value + term.length <= n);
-        at = term.value + term.length;
-    }
-
-    if (read.number == 0) {
-        out = lend(&first, room, 0xA5);
-        read = clp_read(line, n, out, room);
-        uint8_t *text = lend(&second, ROOM, 0x5A);
-        clp_answer t = clp_records_text(out, read.value, text, ROOM);
-        kept(&second, t);
-        check(t.number == 0);
+    /* the line's own records, whole and with a byte that is damaged */
+    if (full.number == 0) {
+        on_records(records, (size_t)full.value, room_len);
+        records[place % full.value] ^= (uint8_t)(1 + place % 9);
+        on_records(records, (size_t)full.value - place % 2, room_len);
     }
 }
 
-/* The same lines, whole and in cuts. */
+/* ---- a capture: the same lines whole and in cuts, by joining, with places, and by listing */
+
 static void on_capture(const uint8_t *capture, size_t n, size_t cut)
 {
-    uint64_t whole = 0, parts = 0;
-    uint8_t a[CLP_LINE_BYTES] = {0}, b[CLP_LINE_BYTES] = {0};
+    static clp_placed placed;
+    static uint8_t records[CLP_READING_BYTES];
+    uint64_t state = 0, list_state = 0;
     size_t at = 0, done = 0;
-    if (cut == 0)
-        cut = 1;
+    uint8_t *line = lend_room(&buffer, CLP_LINE_BYTES, 8), *list_line = lend_room(&kept, CLP_LINE_BYTES, 9);
+    clp_answer end, a;
+    memset(&placed, 0, sizeof placed);
     while (at < n) {
-        clp_joined x = clp_join(whole, a, sizeof a, capture + at, n - at), y = {0, CLP_NONE, 0, 0};
+        clp_joined x = clp_join(state, line, CLP_LINE_BYTES, capture + at, n - at), y = {0, CLP_NONE, 0, 0}, z;
         check(x.used > 0 && at + x.used <= n);
+        check(x.number == 0 || (x.number == CLP_REFUSED_LONG_LINE && x.value == CLP_LINE_BYTES));
         at += x.used;
-        whole = x.state;
+        state = x.state;
         while (done < at) {
-            size_t length = at - done < cut ? at - done : cut;
-            y = clp_join(parts, b, sizeof b, capture + done, length);
-            check(y.used > 0 && y.used <= length);
+            size_t length = smaller(at - done, cut + 1);
+            const uint8_t *part = lend_copy(&text, capture + done, length);
+            y = clp_list(list_state, list_line, CLP_LINE_BYTES, part, length, lend_room(&room, CLP_READING_BYTES, 10), CLP_READING_BYTES);
+            check(y.number == 0 && y.used > 0 && y.used <= length);
+            z = clp_join_placed(&placed, part, length);
+            check(z.used == y.used && z.state == y.state);
             done += y.used;
-            parts = y.state;
+            list_state = y.state;
+            memcpy(records, wrote(&room, y.value == CLP_NONE ? 0 : (size_t)y.value), sizeof records);
             check(done == at || y.value == CLP_NONE);
         }
-        check(x.number == y.number && x.value == y.value && whole == parts);
-        if (x.number == 0 && x.value != CLP_NONE)
-            check(memcmp(a, b, x.value) == 0);
+        check(state == list_state && memcmp(line, list_line, x.number == 0 && x.value == CLP_NONE ? state & CLP_STATE_HELD : x.value) == 0);
+        if (x.number == 0 && x.value == CLP_NONE) {
+            check(y.value == CLP_NONE && at == n);
+            continue;
+        }
+        /* what was listed is the line's reading, or its refusal */
+        a = clp_read(line, (size_t)x.value, lend_room(&room, CLP_READING_BYTES, 11), CLP_READING_BYTES);
+        if (x.number != 0)
+            a.number = x.number, a.value = x.value;
+        if (a.number == 0)
+            check(y.value == a.value && memcmp(records, wrote(&room, (size_t)a.value), (size_t)a.value) == 0);
+        else
+            check(y.value == CLP_REFUSAL_BYTES && records[0] == CLP_KIND_REFUSAL && records[1] == a.number && CLP_FIELD(records + 2) == a.value);
+        for (size_t i = 0; i < x.value; i++)
+            check(capture[placed.places[i]] == line[i] && placed.places[i] < placed.places[i + 1]);
     }
-    clp_answer x = clp_end(whole), y = clp_end(parts);
-    check(x.number == y.number && x.value == y.value && x.number == 0);
+    end = clp_end(state);
+    check(end.number == 0 && end.value <= 1);
+    a = clp_list_end(state, lend_room(&room, 1, 12), 1);
+    check(same(a, end) && (end.value == 0 || written(&room, a)[0] == CLP_KIND_CUT));
+    wrote(&buffer, CLP_LINE_BYTES);
+    wrote(&kept, CLP_LINE_BYTES);
 }
 
-static void on_tree(const uint8_t *tree, size_t n, const uint8_t *text, size_t m, size_t node, size_t room)
+/* ---- one call with any state, buffer and room: refused as 19 with nothing changed, or as a capture's */
+
+static int led_to(uint64_t state)
 {
-    static uint16_t list[CANARY + CLP_TREE_NODES + CANARY], before[CANARY + CLP_TREE_NODES + CANARY];
-    clp_answer good = clp_check_tree(tree, n);
-    check(good.number == 0 || (good.number == CLP_REFUSED_TREE && good.value < n && good.value % CLP_NODE_BYTES == 0));
+    uint64_t held = state & CLP_STATE_HELD;
+    if (state & CLP_STATE_LONG && held != CLP_LINE_BYTES)
+        return 0;
+    return state < 16384 && held <= CLP_LINE_BYTES && !((state & CLP_STATE_GRAVE) && (state & CLP_STATE_CR));
+}
 
-    memset(list, 0x77, sizeof list);
-    memcpy(before, list, sizeof list);
-    size_t most = room < CLP_TREE_NODES ? room : CLP_TREE_NODES;
-    clp_answer r = clp_resolve(text, m, tree, n, node, list + CANARY, most);
-    size_t wrote = r.number == 0 && r.value != CLP_SESSION ? (size_t)r.value : 0;
-    check(wrote <= most && memcmp(list, before, CANARY * sizeof *list) == 0);
-    check(memcmp(list + CANARY + wrote, before + CANARY + wrote, (CLP_TREE_NODES - wrote + CANARY) * sizeof *list) == 0);
-    for (size_t i = 0; i < wrote; i++)
-        check(list[CANARY + i] <= n / CLP_NODE_BYTES);
+static void on_call(uint64_t state, size_t buffer_len, const uint8_t *bytes, size_t n, size_t room_len)
+{
+    const uint8_t *part = lend_copy(&text, bytes, n);
+    int fits = led_to(state) && buffer_len == CLP_LINE_BYTES;
+    clp_joined x = clp_join(state, lend_room(&buffer, buffer_len, 13), buffer_len, part, n), y;
+    clp_answer end = clp_end(state), a;
+    if (fits)
+        check(x.number <= 1 && x.used <= n && (n == 0 || x.used > 0) && led_to(x.state));
+    else
+        check(x.number == CLP_REFUSED_ROOM && x.value == 0 && x.used == 0 && x.state == state);
+    wrote(&buffer, fits ? CLP_LINE_BYTES : 0);
+    memcpy(kept.bytes + EDGE, buffer.bytes + EDGE, CLP_LINE_BYTES); /* what joining leaves */
 
-    uint8_t *path = lend(&first, ROOM, 0xA5);
-    clp_answer p = clp_full_path(tree, n, node, path, ROOM);
-    kept(&first, p);
-    if (good.number == 0 && p.number == 0) {
-        uint16_t one = 0;
-        clp_answer back = clp_resolve(path, p.value, tree, n, 0, &one, 1);
-        check(back.number == CLP_REFUSED_TARGET || (back.number == 0 && back.value == 1 && one == node));
+    y = clp_list(state, lend_room(&buffer, buffer_len, 13), buffer_len, part, n, lend_room(&room, room_len, 14), room_len);
+    if (fits && room_len >= CLP_READING_BYTES) {
+        check(y.number == 0 && y.used == x.used && y.state == x.state);
+        check((y.value == CLP_NONE) == (x.number == 0 && x.value == CLP_NONE));
+        wrote(&room, y.value == CLP_NONE ? 0 : (size_t)y.value);
+        check(memcmp(wrote(&buffer, CLP_LINE_BYTES), kept.bytes + EDGE, CLP_LINE_BYTES) == 0);
+    } else {
+        check(y.number == CLP_REFUSED_ROOM && y.value == 0 && y.used == 0 && y.state == state);
+        wrote(&room, 0);
+        wrote(&buffer, 0);
     }
+
+    check(led_to(state) ? end.number == 0 && end.value <= 1 : is(end, CLP_REFUSED_ROOM, 0));
+    a = clp_list_end(state, lend_room(&room, room_len % 3, 15), room_len % 3);
+    written(&room, a);
+    check(end.number == 0 && end.value > room_len % 3 ? is(a, CLP_REFUSED_ROOM, 0) : same(a, end));
+}
+
+/* ---- a tree, and a text in it */
+
+static void on_tree(const uint8_t *bytes, size_t n, const uint8_t *path, size_t m, size_t node, size_t room_len)
+{
+    static lent list;
+    static uint8_t full[CLP_PATH_BYTES];
+    const uint8_t *tree = lend_copy(&text, bytes, n), *target = lend_copy(&other, path, m);
+    clp_answer good = clp_check_tree(tree, n), all, a, p;
+    size_t i, nodes = n / CLP_NODE_BYTES, list_len = room_len % (CLP_TREE_NODES + 1);
+    const uint8_t *out;
+    check(good.number == 0 ? good.value == 0 && n % CLP_NODE_BYTES == 0 && nodes <= CLP_TREE_NODES
+                           : good.number == CLP_REFUSED_TREE && good.value < n && good.value % CLP_NODE_BYTES == 0);
+
+    all = clp_resolve(target, m, tree, n, node, (uint16_t *)(void *)lend_room(&list, 2 * CLP_TREE_NODES, 16), CLP_TREE_NODES);
+    check(all.number == 0 || all.number == 12 || (all.number >= 15 && all.number <= 18));
+    check((all.number == CLP_REFUSED_TREE) <= (good.number != 0) && (all.number == 0) <= (good.number == 0));
+    check((all.number == 17 || all.number == 18 ? all.value < m : all.number == 0 || all.value == (all.number == 15 ? good.value : 0)));
+    out = wrote(&list, all.number == 0 && all.value != CLP_SESSION ? 2 * (size_t)all.value : 0);
+    for (i = 0; all.number == 0 && all.value != CLP_SESSION && i < all.value; i++) {
+        uint16_t found;
+        memcpy(&found, out + 2 * i, 2);
+        check(found <= nodes);
+    }
+    a = clp_resolve(target, m, tree, n, node, (uint16_t *)(void *)lend_room(&list, 2 * list_len, 17), list_len);
+    wrote(&list, a.number == 0 && a.value != CLP_SESSION ? 2 * (size_t)a.value : 0);
+    check(all.number == 0 && all.value != CLP_SESSION && all.value > list_len ? is(a, CLP_REFUSED_ROOM, 0) : same(a, all));
+
+    p = clp_full_path(tree, n, node, lend_room(&room, CLP_PATH_BYTES, 18), CLP_PATH_BYTES);
+    memcpy(full, written(&room, p), sizeof full);
+    check(good.number != 0 ? same(p, good) : node > nodes ? is(p, CLP_REFUSED_NODE, 0) : p.number == 0);
+    a = clp_full_path(tree, n, node, lend_room(&room, room_len, 19), room_len);
+    written(&room, a);
+    check(p.number == 0 && p.value > room_len ? is(a, CLP_REFUSED_ROOM, 0) : same(a, p));
+    /* a full path leads back to its node, unless it has too many segments */
+    if (p.number == 0) {
+        uint16_t one = 0;
+        a = clp_resolve(full, (size_t)p.value, tree, n, 0, &one, 1);
+        check(is(a, CLP_REFUSED_TARGET, 0) || (is(a, 0, 1) && one == node));
+    }
+}
+
+/* A tree that is good by its making: so many nodes with parents, tags and numbers from the input, and a path to one of them. */
+static void on_good_tree(const uint8_t *bytes, size_t n, size_t node, size_t room_len)
+{
+    static uint8_t tree[CLP_TREE_NODES * CLP_NODE_BYTES];
+    size_t i, nodes = smaller(n / 2, CLP_TREE_NODES);
+    memset(tree, 0, sizeof tree);
+    for (i = 0; i < nodes; i++) {
+        uint8_t *r = tree + i * CLP_NODE_BYTES;
+        size_t parent = bytes[2 * i] % 4 == 0 ? i : bytes[2 * i] * (i + 1) / 256;
+        r[0] = CLP_KIND_NODE;
+        r[1] = (uint8_t)(parent >> 8);
+        r[2] = (uint8_t)parent;
+        r[3] = (uint8_t)(1 + bytes[2 * i + 1] % 16);
+        memset(r + 4, 'a' + bytes[2 * i + 1] / 16, r[3]);
+        r[20] = (uint8_t)((i + 1) >> 8);
+        r[21] = (uint8_t)(i + 1);
+    }
+    check(clp_check_tree(tree, nodes * CLP_NODE_BYTES).number == 0);
+    on_tree(tree, nodes * CLP_NODE_BYTES, bytes + 2 * nodes, n - 2 * nodes, node, room_len);
 }
 
 int LLVMFuzzerTestOneInput(const uint8_t *data, size_t size)
 {
-    if (size < 6)
+    static const uint16_t lengths[] = {CLP_LINE_BYTES, CLP_LINE_BYTES, CLP_LINE_BYTES, 0, 1, CLP_LINE_BYTES - 1, CLP_LINE_BYTES + 1, 4096};
+    uint64_t state;
+    size_t room_len, cut, node, split, buffer_len;
+    if (size < 10 || size > MOST)
         return 0;
-    size_t room = (size_t)data[0] | (size_t)(data[1] & 3) << 8, cut = data[2], node = data[3], split = data[4] | (size_t)data[5] << 8;
-    data += 6;
-    size -= 6;
-    if (size > 16384)
-        return 0;
-    if (split > size)
-        split = size;
-    on_line(data, size, room);
+    /* a state from anywhere; a last bit sets all bits */
+    state = (data[0] & 0x80) && (data[1] & 0x80) ? UINT64_MAX - data[0] : (uint64_t)(data[0] | data[1] << 8);
+    room_len = (size_t)(data[2] | data[3] << 8) % 2600;
+    buffer_len = lengths[data[4] % 8];
+    cut = data[5];
+    node = (size_t)(data[6] | data[7] << 8) % 600;
+    split = (size_t)(data[8] | data[9] << 8);
+    data += 10;
+    size -= 10;
+    split = smaller(split, size);
+    on_line(data, size, room_len, split);
     on_capture(data, size, cut);
-    on_tree(data, split, data + split, size - split, node, room);
+    on_call(state, buffer_len, data, size, room_len);
+    on_records(data, size, room_len);
+    on_tree(data, split, data + split, size - split, node, room_len);
+    on_good_tree(data, size, node, room_len);
     return 0;
 }

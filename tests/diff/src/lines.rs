@@ -2,23 +2,25 @@
 
 use crate::lent::{bytes, size_near};
 use clp_face as face;
-use clp_gen::{line, Rng};
+use clp_gen::{damage::damage, line, Rng};
 use clp_reader::canonical::write_canonical;
 use clp_reader::reading::{read, target_part};
 use clp_reader::records::write_text;
 use clp_reader::refusal::Refusal;
-use clp_reader::terms::next_term;
+use clp_reader::terms::{next_term, write_stood_for};
 
 /// How often each answer was met, so that a run can show what it covered.
 #[derive(Default)]
 pub struct Counts {
     accepted: usize,
     refused: [usize; 20],
+    longest: usize,
 }
 
 impl Counts {
     pub fn show(&self) {
         println!("diff: accepted {}, refused by number {:?}", self.accepted, &self.refused[1..]);
+        println!("diff: the longest canonical writing has {} of {} bytes", self.longest, face::CANONICAL_BYTES);
     }
 }
 
@@ -72,9 +74,11 @@ pub fn compare(rng: &mut Rng, counts: &mut Counts) {
     }
     compare_target(&line);
     compare_terms(rng, &line);
-    compare_writing(rng, &line);
+    counts.longest = counts.longest.max(compare_writing(rng, &line));
+    compare_meaning(rng, &line);
     if needed > 0 {
         compare_text(rng, &room[..needed]);
+        compare_damaged(rng, &room[..needed]);
     }
 }
 
@@ -113,20 +117,43 @@ fn compare_term(line: &[u8], place: usize) -> Option<usize> {
     found.ok().flatten().map(|part| usize::from(part.position) + usize::from(part.length))
 }
 
-fn compare_writing(rng: &mut Rng, line: &[u8]) {
+/// The writing's length, which is within the bound that the header gives.
+fn compare_writing(rng: &mut Rng, line: &[u8]) -> usize {
     let mut room = [0; 4200];
     let needed = write_canonical(line, &mut room).unwrap_or(0);
+    assert!(needed <= face::CANONICAL_BYTES, "{}", line.escape_ascii());
     let size = size_near(rng, needed, 1100);
     let ours = |room: &mut [u8]| face::canonical(line, room);
     let theirs = |room: &mut [u8]| write_canonical(line, room);
+    same_writing(rng, size, ours, theirs, line);
+    needed
+}
+
+/// What the whole line, taken as one text, stands for.
+fn compare_meaning(rng: &mut Rng, line: &[u8]) {
+    let size = size_near(rng, line.len(), 1100);
+    let ours = |room: &mut [u8]| face::meant(line, room);
+    let theirs = |room: &mut [u8]| write_stood_for(line, room);
     same_writing(rng, size, ours, theirs, line);
 }
 
 fn compare_text(rng: &mut Rng, records: &[u8]) {
     let mut room = [0; 4096];
     let needed = write_text(records, &mut room).unwrap_or(0);
+    assert!(needed <= face::TEXT_BYTES && needed <= 6 * records.len());
     let size = size_near(rng, needed, 600);
     let ours = |room: &mut [u8]| face::records_text(records, room);
     let theirs = |room: &mut [u8]| write_text(records, room);
     same_writing(rng, size, ours, theirs, records);
+}
+
+/// Records that lost, doubled or changed a byte: mostly bad somewhere.
+fn compare_damaged(rng: &mut Rng, records: &[u8]) {
+    let mut bytes = records.to_vec();
+    damage(rng, &mut bytes);
+    if rng.percent(50) {
+        let at = rng.below(bytes.len() + 1);
+        bytes.insert(at, rng.byte() % 20);
+    }
+    compare_text(rng, &bytes);
 }

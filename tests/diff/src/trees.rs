@@ -25,6 +25,7 @@ fn compare_path(rng: &mut Rng, tree: &[u8]) {
     let node = rng.below(tree.len() / 22 + 3);
     let mut room = vec![0; 22 * 520];
     let needed = full_path(tree, node, &mut room).unwrap_or(0);
+    assert!(needed <= face::PATH_BYTES);
     let size = size_near(rng, needed, 200);
     let ours = |room: &mut [u8]| face::full_path(tree, node, room);
     let theirs = |room: &mut [u8]| full_path(tree, node, room);

@@ -38,6 +38,18 @@ pub struct Part {
 /// No line has ended yet, there is no term, or the target is SESSION.
 pub const NONE: u64 = u64::MAX;
 
+/// A line's records take at most so many bytes.
+pub const READING_BYTES: usize = 399;
+
+/// A line's canonical writing takes at most so many bytes.
+pub const CANONICAL_BYTES: usize = 1978;
+
+/// The text of one line's records takes at most so many bytes.
+pub const TEXT_BYTES: usize = 2394;
+
+/// A full path takes at most so many bytes.
+pub const PATH_BYTES: usize = 11264;
+
 mod raw {
     use super::{Answer, Joined, Part, Term};
 
@@ -54,6 +66,8 @@ mod raw {
             -> Answer;
         pub fn clp_target(line: *const u8, line_len: usize) -> Part;
         pub fn clp_next_term(line: *const u8, line_len: usize, place: usize) -> Term;
+        pub fn clp_meant(text: *const u8, text_len: usize, room: *mut u8, room_len: usize)
+            -> Answer;
         pub fn clp_canonical(
             line: *const u8,
             line_len: usize,
@@ -121,6 +135,10 @@ pub fn next_term(line: &[u8], place: usize) -> Term {
 
 pub fn canonical(line: &[u8], room: &mut [u8]) -> Answer {
     unsafe { raw::clp_canonical(line.as_ptr(), line.len(), room.as_mut_ptr(), room.len()) }
+}
+
+pub fn meant(text: &[u8], room: &mut [u8]) -> Answer {
+    unsafe { raw::clp_meant(text.as_ptr(), text.len(), room.as_mut_ptr(), room.len()) }
 }
 
 pub fn check_tree(tree: &[u8]) -> Answer {

@@ -381,7 +381,7 @@ fn put_segment(rng: &mut Rng, is_last: bool, line: &mut Vec<u8>) {
 
 /// A line at the edge of one limit of the paper.
 pub fn edge_line(rng: &mut Rng) -> Vec<u8> {
-    match rng.below(10) {
+    match rng.below(11) {
         0 => line_of_about_1024(rng),
         1 => line_of_about_64_terms(rng),
         2 => line_of_about_32_properties(rng),
@@ -391,6 +391,7 @@ pub fn edge_line(rng: &mut Rng) -> Vec<u8> {
         6 => many_segments(rng),
         7 => repeated_option(rng),
         8 => option_at_the_end(rng),
+        9 => growing_line(rng),
         _ => many_list_items(rng),
     }
 }
@@ -418,6 +419,35 @@ fn line_of_about_1024(rng: &mut Rng) -> Vec<u8> {
         }
     }
     line
+}
+
+/// About 1,024 bytes of short option names and of lists whose items grow where they are written canonically.
+fn growing_line(rng: &mut Rng) -> Vec<u8> {
+    let length = rng.between(1016, 1024);
+    let mut line = b"cd".to_vec();
+    for option in [" -x", " -v", " -f", " -h", " -w", " -l 1"] {
+        if rng.percent(80) {
+            line.extend_from_slice(option.as_bytes());
+        }
+    }
+    line.extend_from_slice(rng.pick_text(&[" -d ", " -o ", " -d a -o ", " "]));
+    let most_items = rng.between(12, 16);
+    let kinds = rng.between(1, 5);
+    let parting = *rng.pick(b",, ");
+    loop {
+        line.extend_from_slice(b"a=(");
+        for _ in 1..most_items {
+            line.extend_from_slice(rng.pick_text(&["`x,", ":,", "`:`x,", "\"`x\",", "/`a,"][..kinds]));
+            if line.len() + 8 > length {
+                break;
+            }
+        }
+        line.extend_from_slice(b"`x)");
+        if line.len() + 8 > length {
+            return line;
+        }
+        line.push(parting);
+    }
 }
 
 /// 60 to 70 terms, sometimes with a dangling end that has to come first.

@@ -1,6 +1,6 @@
 //! "Records of a reading": the records' bytes, and their text as `clplist` prints it.
 
-use crate::refusal::{Refusal, ROOM_TOO_SMALL};
+use crate::refusal::{Refusal, ROOM_TOO_SMALL, TREE_MALFORMED};
 use crate::sink::{Count, Fill, Sink};
 use crate::Part;
 
@@ -199,8 +199,13 @@ fn decode(bytes: &[u8]) -> Option<(Record, usize)> {
     })
 }
 
-/// Writes each record of `bytes` as one line of text into lent room, and tells the text's length.
+/// Writes each record of `bytes` as one line of text into lent room, and tells the text's length. Bytes that are no records are refused where the first bad one starts.
 pub fn write_text(bytes: &[u8], room: &mut [u8]) -> Result<usize, Refusal> {
+    let mut all = records(bytes);
+    while all.next().is_some() {}
+    if !all.rest.is_empty() {
+        return Err(Refusal::new(TREE_MALFORMED, bytes.len() - all.rest.len()));
+    }
     let mut needed = Count::default();
     put_text(bytes, &mut needed);
     let answer = room.get_mut(..needed.0).ok_or(ROOM_TOO_SMALL)?;
