@@ -4,7 +4,7 @@ use Prim.Native.String.{String}
 use mathlib.Core.Path.{_≡_, refl}
 use mathlib.Core.List.{List, [], _∷_, map}
 use mathlib.Core.Bool.{Bool, true, false}
-use lib.ListN.{length}
+use lib.ListN.{length, replicate}
 use Rattle.text.specs.Bytes.{bytes, oneOf, sameBytes, isWord}
 use Rattle.text.specs.Lists.{allOf, anyOf, upTo, past, runLen, parts, every}
 use Rattle.text.specs.Decimal.{valueFrom, isDecimal}
@@ -121,3 +121,12 @@ placed =
 pub texts-placed : map (λ (e : Placed). places (e .0) (bytes (e .0))) placed ≡ placed
 unfolding bytes sameBytes allOf upTo runLen parts valueFrom isDecimal sessionName tagLen isNumbered isStarred isSegment areSegments segmentOf segmentsOf pathOf targetOf whereIn segmentText segmentAt
 texts-placed = refl
+
+-- a name of 64 bytes is one, and of 65 none; a list of 16 items is a value, and of 17 none; a path of 16 segments is a target, and of 17 none
+pub limits :
+    (isName (replicate 64 97) ≡ true) × (isName (replicate 65 97) ≡ false)
+    × (isValueIn (bytes "(a,a,a,a,a,a,a,a,a,a,a,a,a,a,a,a)") 33 ≡ true) × (isValueIn (bytes "(a,a,a,a,a,a,a,a,a,a,a,a,a,a,a,a,a)") 35 ≡ false)
+    × (whereIn (bytes "/a1/a1/a1/a1/a1/a1/a1/a1/a1/a1/a1/a1/a1/a1/a1/a1") ≡ where′.Path true 16)
+    × (whereIn (bytes "/a1/a1/a1/a1/a1/a1/a1/a1/a1/a1/a1/a1/a1/a1/a1/a1/a1") ≡ where′.No)
+unfolding bytes oneOf sameBytes isWord allOf anyOf upTo past runLen parts every valueFrom isDecimal twelve two after gives signs raws stands isName isPlainSign endsQuote isText itemsIn isList listOf textOf valueOf isValueIn sessionName tagLen isNumbered isStarred isSegment areSegments segmentOf segmentsOf pathOf targetOf whereIn
+limits = (refl, refl, refl, refl, refl, refl)

@@ -25,6 +25,10 @@ examples =
     (114 ∷ 101 ∷ 115 ∷ 101 ∷ 116 ∷ 32 ∷ 34 ∷ 111 ∷ 115 ∷ 49 ∷ 13 ∷ 10 ∷ 115 ∷ 101 ∷ 116 ∷ 32 ∷ 97 ∷ 61 ∷ 34 ∷ 98 ∷ 10 ∷ 99 ∷ 34 ∷ 10 ∷ [], line (114 ∷ 101 ∷ 115 ∷ 101 ∷ 116 ∷ 32 ∷ 34 ∷ 111 ∷ 115 ∷ 49 ∷ []) ∷ line (115 ∷ 101 ∷ 116 ∷ 32 ∷ 97 ∷ 61 ∷ 34 ∷ 98 ∷ []) ∷ line (99 ∷ 34 ∷ []) ∷ [], nothing) ∷
     -- a line that has not ended
     (99 ∷ 100 ∷ [], [], cut) ∷
+    -- one byte of it
+    (99 ∷ [], [], cut) ∷
+    -- a capture that begins with an end of line
+    (10 ∷ [], line ([]) ∷ [], nothing) ∷
     -- a GRAVE that waits
     (120 ∷ 10 ∷ 96 ∷ [], line (120 ∷ []) ∷ [], cut) ∷
     -- a join, and nothing else held

@@ -3,7 +3,7 @@ use mathlib.Core.Path.{_≡_, refl}
 use Prim.Native.Nat.{ℕ, _-_, _/_, _%_}
 use Prim.Native.String.{String}
 use mathlib.Core.List.{List, [], _∷_, _++_, map}
-use lib.ListN.{length, replicate}
+use lib.ListN.{length, replicate, set}
 use Rattle.text.specs.Bytes.{bytes, sameBytes}
 use Rattle.text.specs.Lists.{allOf, anyOf, parts, runLen}
 use Rattle.text.specs.Decimal.{valueFrom, isDecimal, width, digits}
@@ -53,7 +53,15 @@ resolving : map addressed texts
 unfolding texts addressed small node bytes sameBytes allOf anyOf parts runLen valueFrom isDecimal wrote filled sessionName tagLen isNumbered isStarred isSegment areSegments segmentOf segmentsOf pathOf targetOf tagIn paddingIn sameNode twinIn twin badForm badRecord checkFrom checkTree recordAt nodesFrom taggedIn namedIn isTagged isNamed taggedUnder namedUnder along instancesOf resolveOf resolveList
 resolving = refl
 
-paths : (checkTree small ≡ Good) × (checkTree (small ++ node 1 "cpu" 4) ≡ Bad 132) × (checkTree (node 1 "cpu" 4) ≡ Bad 0) × (fullPath small 0 ≡ bytes "/") × (fullPath small 4 ≡ bytes "/system1/fan65535")
+-- a good tree, where the node just before one is its parent; a twin; a parent that is the record itself; a byte of padding that is not zero
+checks :
+    (checkTree small ≡ Good) × (checkTree (small ++ node 1 "cpu" 4) ≡ Bad 132) × (checkTree (node 1 "cpu" 4) ≡ Bad 0)
+    × (checkTree (node 0 "system" 1 ++ set (node 1 "cpu" 1) 19 1) ≡ Bad 22)
+unfolding small node bytes sameBytes allOf anyOf tagIn paddingIn sameNode twinIn twin badForm badRecord checkFrom checkTree recordAt
+checks = (refl, refl, refl, refl)
+
+paths :
+    (fullPath small 0 ≡ bytes "/") × (fullPath small 4 ≡ bytes "/system1/fan65535")
     × (pathAnswer 16 small 4 ≡ answer.Refused 19 0) × (pathAnswer 17 small 4 ≡ answer.Wrote 17) × (pathAnswer 18 small 7 ≡ answer.Refused 16 0)
 unfolding small node bytes sameBytes allOf anyOf width digits fitted tagIn paddingIn sameNode twinIn twin badForm badRecord checkFrom checkTree recordAt segment pathUp fullPath pathAnswer
-paths = (refl, refl, refl, refl, refl, refl, refl, refl)
+paths = (refl, refl, refl, refl, refl)
