@@ -1,0 +1,6 @@
+pub mod LineText
+pub mod PrintLaws
+pub mod LoopLaws
+pub mod Prints
+pub mod Demand1
+pub mod Only
