@@ -12,7 +12,7 @@ use borrow.Author.Tests.{eq-eqb, ltb-true, leb-true, le-ltb}
 use Rattle.text.specs.declared.Answer.the-variants as answers
 use Rattle.text.specs.Room.{wrote}
 use Rattle.text.proofs.Tests.{and-r, no-case}
-use Rattle.text.proofs.Slices.{part-from, length-from}
+use Rattle.text.proofs.Slices.{part-from}
 use Rattle.text.proofs.Writes.{sets-append, sets-fill}
 use Rattle.joiner.specs.declared.Joiner.{Joiner}
 use Rattle.joiner.specs.declared.Outcome.{Outcome}
@@ -178,31 +178,39 @@ one-line outcome.More = omega arith
 one-line (outcome.Line k) = omega arith
 one-line (outcome.Refused k p) = omega arith
 
--- a call on the rest of the part, which is p
-module _ (s₀ : Joiner) (b₀ part out₀ : List ℕ) (s : Joiner) (b out : List ℕ) (at lines n : ℕ) (T : Turn s₀ b₀ part out₀ s b out at lines n)
+-- what a call tells of the rest of the part and of the room
+pub record Counts (part out : List ℕ) (at lines n : ℕ) (c : Called) : Type 0 where
+  pub some : 0 < c .used
+  pub within : at + c .used ≤ length part
+  pub few : lines + c .lines ≤ at + c .used
+  pub fits : n + c .text ≤ length out
+
+module _ {s₀ : Joiner} {b₀ part out₀ : List ℕ} {s : Joiner} {b out : List ℕ} {at lines n : ℕ} (T : Turn s₀ b₀ part out₀ s b out at lines n)
     (may : mayCall (length part - at) (length out - n) ≡ true) where
-  pub turn-room : longest ≤ length (take (length out - n) (drop n out))
-  turn-room = omega (arith, length-from out n, may-room (length part - at) (length out - n) may)
+  pub turn-room : longest ≤ length out - n
+  turn-room = may-room (length part - at) (length out - n) may
 
+  -- a call on p, which is the rest of the part
   module _ (p : List ℕ) (is : p ≡ drop at part) where
-    long : length p ≡ length part - at
-    long = ap length is ∙ length-drop at part
+    call-counts : Counts part out at lines n (calledBy (joinOf s b p))
+    call-counts =
+        let l : length p ≡ length part - at = ap length is ∙ length-drop at part in
+        let u = used-some s b p (T .fits) (omega (arith, l, may-left (length part - at) (length out - n) may)) in
+        record {
+          some = u;
+          within = omega (arith, used-within s b p, l, T .within);
+          few = omega (arith, T .few, u, one-line (joinOf s b p .answer .outcome));
+          fits = omega (arith, turn-room, text-fits (joinOf s b p .answer .outcome) (joinOf s b p .buffer));
+        }
 
-    used-more : 0 < joinOf s b p .answer .used
-    used-more = used-some s b p (T .fits) (omega (arith, long, may-left (length part - at) (length out - n) may))
-
-    fits-more : n + length (ranText (joinOf s b p)) ≤ length out
-    fits-more =
-        omega (arith, may-room (length part - at) (length out - n) may, text-fits (joinOf s b p .answer .outcome) (joinOf s b p .buffer))
-
-    left-more : (out′ : List ℕ) → out′ ≡ sets out n (ranText (joinOf s b p))
+    call-left : (out′ : List ℕ) → out′ ≡ sets out n (ranText (joinOf s b p))
         → let R : Ran = joinOf s b p in
         Left (printOf s₀ b₀ part (length out₀)) out₀ (printOf (R .answer .state) (R .buffer) (drop (at + R .answer .used) part) (length out′ - (n + length (ranText R)))) out′
         (at + R .answer .used) (lines + linesBy (R .answer .outcome)) (n + length (ranText R))
-    left-more out′ e =
+    call-left out′ e =
         let R : Ran = joinOf s b p in
         let W : Print = printOf s₀ b₀ part (length out₀) in
-        let m : mayCall (length p) (length out - n) ≡ true = ap (λ (k : ℕ). mayCall k (length out - n)) long ∙ may in
+        let m : mayCall (length p) (length out - n) ≡ true = ap (λ (k : ℕ). mayCall k (length out - n)) (ap length is ∙ length-drop at part) ∙ may in
         let q : printOf s b (drop at part) (length out - n) ≡ andThen R (printOf (R .answer .state) (R .buffer) (drop (R .answer .used) p) (length out - n - length (ranText R))) =
         ap (λ (l : List ℕ). printOf s b l (length out - n)) (sym is) ∙ print-on s b p (length out - n) (T .fits) m in
         let d : drop (R .answer .used) p ≡ drop (at + R .answer .used) part = ap (drop (R .answer .used)) is ∙ drop-drop (R .answer .used) at part in
@@ -211,53 +219,44 @@ module _ (s₀ : Joiner) (b₀ part out₀ : List ℕ) (s : Joiner) (b out : Lis
         subst (λ (r : ℕ). Left W out₀ (printOf (R .answer .state) (R .buffer) (drop (at + R .answer .used) part) r) out′ (at + R .answer .used) (lines + linesBy (R .answer .outcome)) (n + length (ranText R))) k
         (subst (λ (r : List ℕ). Left W out₀ (printOf (R .answer .state) (R .buffer) r (length out - n - length (ranText R))) out′ (at + R .answer .used) (lines + linesBy (R .answer .outcome)) (n + length (ranText R))) d l)
 
-    turn-join : (out′ : List ℕ) → out′ ≡ sets out n (ranText (joinOf s b p))
+    call-turn : (out′ : List ℕ) → out′ ≡ sets out n (ranText (joinOf s b p))
         → let R : Ran = joinOf s b p in
         Turn s₀ b₀ part out₀ (R .answer .state) (R .buffer) out′ (at + R .answer .used) (lines + linesBy (R .answer .outcome)) (n + length (ranText R))
-    turn-join out′ e =
+    call-turn out′ e =
         let same : length out′ ≡ length out = ap length e ∙ length-sets out n (ranText (joinOf s b p)) in
         record {
-          within = omega (arith, used-within s b p, long, T .within);
-          few = omega (arith, T .few, used-more, one-line (joinOf s b p .answer .outcome));
-          room = omega (arith, fits-more, same);
+          within = call-counts .within;
+          few = call-counts .few;
+          room = omega (arith, call-counts .fits, same);
           same = same ∙ T .same;
           fits = fit-on s b p (T .fits);
-          left = left-more out′ e;
+          left = call-left out′ e;
         }
 
-    -- what the call tells
-    module _ (c : Called) (e : c ≡ calledBy (joinOf s b p)) where
-      pub turn-used : 0 < c .used
-      turn-used = omega (arith, ap (λ (q : Called). q .used) e, used-more)
+  -- the call as the code makes it, and what it tells
+  module _ (c : Called) (e : c ≡ calledBy (joinOf s b (take (length part - at) (drop at part)))) where
+    pub turn-counts : Counts part out at lines n c
+    turn-counts = subst (Counts part out at lines n) (sym e) (call-counts (take (length part - at) (drop at part)) (part-from part at))
 
-      module _ (b′ out′ : List ℕ) (eb : b′ ≡ joinOf s b p .buffer) (eo : out′ ≡ sets out n (ranText (joinOf s b p))) where
-        pub turn-on : Turn s₀ b₀ part out₀ (c .state) b′ out′ (at + c .used) (lines + c .lines) (n + c .text)
-        turn-on =
-            subst (λ (q : Called). Turn s₀ b₀ part out₀ (q .state) b′ out′ (at + q .used) (lines + q .lines) (n + q .text)) (sym e)
-            (subst (λ (d : List ℕ). Turn s₀ b₀ part out₀ (joinOf s b p .answer .state) d out′ (at + joinOf s b p .answer .used) (lines + linesBy (joinOf s b p .answer .outcome)) (n + length (ranText (joinOf s b p)))) (sym eb)
-            (turn-join out′ eo))
-
--- the call as the code makes it: on the rest of the part, with the rest of the room
-module _ (s₀ : Joiner) (b₀ part out₀ : List ℕ) (s : Joiner) (b out : List ℕ) (at lines n : ℕ) (T : Turn s₀ b₀ part out₀ s b out at lines n)
-    (may : mayCall (length part - at) (length out - n) ≡ true) (c : Called) (b′ ys : List ℕ)
-    (e : c ≡ calledBy (joinOf s b (take (length part - at) (drop at part)))) (eb : b′ ≡ joinOf s b (take (length part - at) (drop at part)) .buffer)
-    (ey : ys ≡ wrote (take (length out - n) (drop n out)) (ranText (joinOf s b (take (length part - at) (drop at part))))) where
-  pub called : Turn s₀ b₀ part out₀ (c .state) b′ (take n out ++ (ys ++ drop (length out - n) (drop n out))) (at + c .used) (lines + c .lines) (n + c .text)
-  called =
-      turn-on s₀ b₀ part out₀ s b out at lines n T may (take (length part - at) (drop at part)) (part-from part at) c e b′ _ eb
-      (part-back out ys (ranText (joinOf s b (take (length part - at) (drop at part)))) n
-      (fits-more s₀ b₀ part out₀ s b out at lines n T may (take (length part - at) (drop at part)) (part-from part at)) ey)
-
-  pub called-used : 0 < c .used
-  called-used = turn-used s₀ b₀ part out₀ s b out at lines n T may (take (length part - at) (drop at part)) (part-from part at) c e
+    -- with the rest of the room
+    pub turn-on : (b′ ys : List ℕ) → b′ ≡ joinOf s b (take (length part - at) (drop at part)) .buffer
+        → ys ≡ wrote (take (length out - n) (drop n out)) (ranText (joinOf s b (take (length part - at) (drop at part))))
+        → Turn s₀ b₀ part out₀ (c .state) b′ (take n out ++ (ys ++ drop (length out - n) (drop n out))) (at + c .used) (lines + c .lines) (n + c .text)
+    turn-on b′ ys eb ey =
+        let p : List ℕ = take (length part - at) (drop at part) in
+        let R : Ran = joinOf s b p in
+        let o : List ℕ = take n out ++ (ys ++ drop (length out - n) (drop n out)) in
+        let t = call-turn p (part-from part at) o (part-back out ys (ranText R) n (call-counts p (part-from part at) .fits) ey) in
+        subst (λ (q : Called). Turn s₀ b₀ part out₀ (q .state) b′ o (at + q .used) (lines + q .lines) (n + q .text)) (sym e)
+        (subst (λ (d : List ℕ). Turn s₀ b₀ part out₀ (R .answer .state) d o (at + R .answer .used) (lines + linesBy (R .answer .outcome)) (n + length (ranText R))) (sym eb) t)
 
 -- no call more
-pub turn-end : (s₀ : Joiner) (b₀ part out₀ : List ℕ) (s : Joiner) (b out : List ℕ) (at lines n : ℕ) → Turn s₀ b₀ part out₀ s b out at lines n
+pub turn-end : {s₀ : Joiner} {b₀ part out₀ : List ℕ} {s : Joiner} {b out : List ℕ} {at lines n : ℕ} → Turn s₀ b₀ part out₀ s b out at lines n
     → mayCall (length part - at) (length out - n) ≡ false → mayPrint s₀ b₀ (length out₀) ≡ true
     → (_≡_ {A = Printed} (printed s at lines (answers.Wrote n)) (partPrint s₀ b₀ part out₀ .answer))
     × ((b ≡ partPrint s₀ b₀ part out₀ .buffer) × (out ≡ partPrint s₀ b₀ part out₀ .out))
 unfolding partPrint
-turn-end s₀ b₀ part out₀ s b out at lines n T h g =
+turn-end {s₀} {b₀} {part} {out₀} {s} {b} {out} {at} {lines} {n} T h g =
     let W : Print = printOf s₀ b₀ part (length out₀) in
     let m : mayCall (length (drop at part)) (length out - n) ≡ false = ap (λ (k : ℕ). mayCall k (length out - n)) (length-drop at part) ∙ h in
     let q : printOf s b (drop at part) (length out - n) ≡ noneYet s b = print-stop s b (drop at part) (length out - n) m in

@@ -18,13 +18,19 @@ enum-told-3 : tie.Need-enum-told-3
 enum-told-3 c = search needs
 
 returns : tie.Need-returns
-returns c = let a = c .before .before .before .args in sym (ap unrefused (c .enum-told .given .1)) ∙ ap unrefused (c .before .before .end .ensures) ∙ unrefused-end (a .state)
+returns c =
+    let a = c .before .before .before .args in
+    sym (ap unrefused (c .enum-told .given .1)) ∙ ap unrefused (c .before .before .end .ensures) ∙ unrefused-end (a .state)
 
 returns-2 : tie.Need-returns-2
-returns-2 c = let a = c .before .before .before .args in sym (ap unrefused (c .enum-told2 .given .1)) ∙ ap unrefused (c .before .before .end .ensures) ∙ unrefused-end (a .state)
+returns-2 c =
+    let a = c .before .before .before .args in
+    sym (ap unrefused (c .enum-told2 .given .1)) ∙ ap unrefused (c .before .before .end .ensures) ∙ unrefused-end (a .state)
 
 returns-3 : tie.Need-returns-3
-returns-3 c = let a = c .before .before .before .args in sym (ap unrefused (c .enum-told3 .given .1)) ∙ ap unrefused (c .before .before .end .ensures) ∙ unrefused-end (a .state)
+returns-3 c =
+    let a = c .before .before .before .args in
+    sym (ap unrefused (c .enum-told3 .given .1)) ∙ ap unrefused (c .before .before .end .ensures) ∙ unrefused-end (a .state)
 
 pub possible-spec : {M : Type 1} → statement M
 possible-spec =

@@ -14,13 +14,17 @@ same-length : tie.Need-same-length
 same-length c = search needs
 
 returns : tie.Need-returns
-returns c = let a = c .before .before .before .before .before .before .args in let m = c .before .may-print in let e = sym (print-none (a .state) (a .buffer .now) (a .part .now) (a .out .now) (sym (m .ensures) ∙ not-true (m .result) (c .if1 .taken))) in (ap (λ (p : PartPrint). p .answer) e, (ap (λ (p : PartPrint). p .buffer) e, ap (λ (p : PartPrint). p .out) e))
+returns c =
+    let a = c .before .before .before .before .before .before .args in let m = c .before .may-print in let e = sym (print-none (a .state) (a .buffer .now) (a .part .now) (a .out .now) (sym (m .ensures) ∙ not-true (m .result) (c .if1 .taken))) in
+    (ap (λ (p : PartPrint). p .answer) e, (ap (λ (p : PartPrint). p .buffer) e, ap (λ (p : PartPrint). p .out) e))
 
 slice-aggregate-print-calls : tie.Need-slice-aggregate-print-calls
 slice-aggregate-print-calls c = search needs
 
 print-calls-requires : tie.Need-print-calls-requires
-print-calls-requires c κs = let m = c .before .before .before .before .may-print in (sym (m .ensures) ∙ not-false (m .result) (c .before .before .before .if1 .left), search needs)
+print-calls-requires c κs =
+    let m = c .before .before .before .before .may-print in
+    (sym (m .ensures) ∙ not-false (m .result) (c .before .before .before .if1 .left), search needs)
 
 same-length-2 : tie.Need-same-length-2
 same-length-2 c = search needs
