@@ -11,6 +11,7 @@ use borrow.Author.Tests.{le-ltb}
 use Rattle.text.specs.declared.Verdict.the-variants.{Fine}
 use Rattle.joiner.specs.declared.Outcome.{Outcome}
 use Rattle.joiner.specs.declared.Outcome.the-variants as outcome
+use Rattle.joiner.specs.Lines.{Given, line, refused}
 use Rattle.words.specs.declared.Kind.{Kind}
 use Rattle.words.specs.declared.Kind.the-variants.{Mere, Keep, Level, Place, Entries}
 use Rattle.words.specs.Words.{kindOf}
@@ -25,6 +26,7 @@ use Rattle.wording.specs.Steps.{flawIn, wordedText}
 use Rattle.wording.proofs.WordingLaws.{text-of-six, flaw-then}
 use Rattle.lister.specs.Lister.{recordsBy}
 use Rattle.printing.specs.Printing.{longest, outcomeText}
+use Rattle.printing.specs.Prints.{givenRecords}
 
 -- ---- how long they are
 
@@ -151,3 +153,9 @@ fine-worded (unworded n p) e = let z : _≡_ {A = ℕ} 0 1 = cc in absurd (omega
 pub line-worded : (o : Outcome) (b : List ℕ) → wordingOf (recordsBy o b) ≡ worded (outcomeText o b)
 unfolding outcomeText wordingOf
 line-worded o b = fine-worded (wordingOf (recordsBy o b)) (good-by o b (length (recordsBy o b)) 0)
+
+-- so no line of a capture is left out of its text
+pub given-worded : (g : Given) → wordingOf (givenRecords g) ≡ worded (wordedText (wordingOf (givenRecords g)))
+unfolding wordingOf
+given-worded (line t) = fine-worded (wordingOf (listedIn (readingOf t))) (good-listed (readingOf t) (length (listedIn (readingOf t))) 0)
+given-worded (refused k n t) = fine-worded (wordingOf (refusalRecord k n)) (good-refusal k n (length (refusalRecord k n)) 0)

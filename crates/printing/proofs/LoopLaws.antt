@@ -173,7 +173,7 @@ turn-start s b p out e =
       left = rw z (left-start (printOf s b p (length out)) out);
     }
 
-one-line : (o : Outcome) → linesBy o ≤ 1
+pub one-line : (o : Outcome) → linesBy o ≤ 1
 one-line outcome.More = omega arith
 one-line (outcome.Line k) = omega arith
 one-line (outcome.Refused k p) = omega arith
@@ -266,3 +266,8 @@ turn-end {s₀} {b₀} {part} {out₀} {s} {b} {out} {at} {lines} {n} T h g =
 pub print-none : (s : Joiner) (b p out : List ℕ) → mayPrint s b (length out) ≡ false → partPrint s b p out ≡ unprinted s b out
 unfolding partPrint
 print-none s b p out e = rw e refl
+
+-- and one that is
+pub print-some : (s : Joiner) (b p out : List ℕ) → mayPrint s b (length out) ≡ true → partPrint s b p out ≡ printedBy (printOf s b p (length out)) out
+unfolding partPrint
+print-some s b p out e = rw e refl

@@ -157,7 +157,7 @@ pub print-fit : (s : Joiner) (b p : List ℕ) (room : ℕ) → fit s b ≡ true 
 unfolding printOf
 print-fit s b p room f = from-fit (length p) s b p room f
 
-abbrev pub Printable : Joiner → List ℕ → List ℕ → Type 0
+abbrev Printable : Joiner → List ℕ → List ℕ → Type 0
 Printable s b c = (t : List ℕ) × (k : ℕ) × (s′ : Joiner) × Prints s b c t k s′
 
 to-end : (fuel : ℕ) (s : Joiner) (b c : List ℕ) → length c ≤ fuel → fit s b ≡ true → Printable s b c
@@ -174,5 +174,5 @@ to-end (suc fuel) s b (x ∷ xs) h f =
     (P .text ++ r .0, P .lines + r .1, r .2, call n longest (le-refl longest) (r .3))
 
 -- from whatever calls before left, as long as the joiner does not refuse it
-pub prints-run : (s : Joiner) (b c : List ℕ) → fit s b ≡ true → Printable s b c
+pub prints-run : (s : Joiner) (b c : List ℕ) → fit s b ≡ true → (t : List ℕ) × (k : ℕ) × (s′ : Joiner) × Prints s b c t k s′
 prints-run s b c f = to-end (length c) s b c (le-refl (length c)) f
