@@ -510,7 +510,7 @@ text-six zero p s = omega arith
 text-six (suc n) p [] = omega arith
 text-six (suc n) p (k ∷ s) = on-six k p s (wordingFrom n) (formOf k) refl (text-six n)
 
-text-of-six : (s : List ℕ) → length (wordedText (wordingOf s)) ≤ 6 * length s
+pub text-of-six : (s : List ℕ) → length (wordedText (wordingOf s)) ≤ 6 * length s
 unfolding wordingOf
 text-of-six s = text-six (length s) 0 s
 
