@@ -135,7 +135,7 @@ length-wrote : (room t : List ℕ) → length t ≤ length room → length (wrot
 unfolding wrote
 length-wrote room t h = omega (arith, length-append t (drop (length t) room), length-drop (length t) room)
 
-take-wrote : (room t : List ℕ) → take (length t) (wrote room t) ≡ t
+pub take-wrote : (room t : List ℕ) → take (length t) (wrote room t) ≡ t
 unfolding wrote
 take-wrote room t = take-at t (drop (length t) room) (length t) refl
 
