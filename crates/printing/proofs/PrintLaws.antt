@@ -4,13 +4,12 @@ use native.Mathlib.Omega.{arith}
 use mathlib.Core.Path.{_≡_, refl, sym, ap, _∙_, subst}
 use mathlib.Core.List.{List, []}
 use mathlib.Core.Bool.{Bool, true, false, not, _&&_, _||_, cond}
-use lib.ListN.{length, take, drop, length-append, length-drop}
-use lib.Seq.{take-at}
+use lib.ListN.{length, take}
 use lib.Dec.{leb, ltb}
 use borrow.Author.Tests.{le-leb, eq-eqb, ne-eqb, lt-ltb, not-true, not-false}
 use Rattle.text.specs.declared.Answer.the-variants as answers
 use Rattle.text.specs.Room.{wrote}
-use Rattle.text.proofs.Writes.{fitted-room, filled-room}
+use Rattle.text.proofs.Writes.{fitted-room, filled-room, length-wrote, take-wrote}
 use Rattle.joiner.specs.declared.Joiner.{Joiner}
 use Rattle.joiner.specs.declared.Outcome.{Outcome}
 use Rattle.joiner.specs.declared.Outcome.the-variants as outcome
@@ -25,8 +24,8 @@ use Rattle.lister.specs.declared.Stands.the-variants.{Nothing, Records, Refused
 use Rattle.lister.specs.declared.Listed.{Listed}
 use Rattle.lister.specs.Lister.{Call, recordsBy, standsBy, joined, fit, callOf}
 use Rattle.printing.specs.declared.Called.{Called}
-use Rattle.printing.specs.Printing.{longest, mayCall, mayPrint, linesBy, outcomeText, ranText}
-use Rattle.printing.specs.Steps.{textOf, standing, Within, linesIn, calledBy}
+use Rattle.printing.specs.Printing.{longest, mayCall, mayPrint, linesBy, outcomeText, ranText, recordsText}
+use Rattle.printing.specs.Steps.{standing, Stood, linesIn, calledBy}
 use Rattle.printing.proofs.LineText.{records-most, text-fits}
 
 -- ---- the tests
@@ -70,7 +69,7 @@ call-some left room h = sym (ap (λ (t : Bool). t && leb longest room) (lt-ltb 0
 
 -- ---- the text of records
 
-pub no-text : textOf [] ≡ []
+pub no-text : recordsText [] ≡ []
 unfolding wordingOf wordingFrom
 no-text = refl
 
@@ -78,9 +77,9 @@ pub none-wrote : (out : List ℕ) → out ≡ wrote out []
 unfolding wrote
 none-wrote out = refl
 
-module _ (rs out : List ℕ) (h : length (textOf rs) ≤ length out) where
+module _ (rs out : List ℕ) (h : length (recordsText rs) ≤ length out) where
   pub text-wrote : (n : ℕ) (x : List ℕ) → answers.Wrote n ≡ textAnswer (length out) (wordingOf rs) → x ≡ textRoom out (wordingOf rs)
-      → (n ≡ length (textOf rs)) × (x ≡ wrote out (textOf rs))
+      → (n ≡ length (recordsText rs)) × (x ≡ wrote out (recordsText rs))
   text-wrote n x = go (wordingOf rs) h
     where
       go : (u : Worded) → length (wordedText u) ≤ length out → answers.Wrote n ≡ textAnswer (length out) u → x ≡ textRoom out u
@@ -92,7 +91,7 @@ module _ (rs out : List ℕ) (h : length (textOf rs) ≤ length out) where
       go (unworded k p) l e f = let z : _≡_ {A = ℕ} 0 1 = cc in absurd (omega arith)
 
   pub text-refused : (k p : ℕ) (x : List ℕ) → answers.Refused k p ≡ textAnswer (length out) (wordingOf rs) → x ≡ textRoom out (wordingOf rs)
-      → (0 ≡ length (textOf rs)) × (x ≡ wrote out (textOf rs))
+      → (0 ≡ length (recordsText rs)) × (x ≡ wrote out (recordsText rs))
   text-refused k p x = go (wordingOf rs) h
     where
       go : (u : Worded) → length (wordedText u) ≤ length out → answers.Refused k p ≡ textAnswer (length out) u → x ≡ textRoom out u
@@ -105,46 +104,38 @@ module _ (rs out : List ℕ) (h : length (textOf rs) ≤ length out) where
 -- ---- the text of what stands in a room
 
 module _ (s : Stands) (room out : List ℕ) where
-  none-stands : standing s room ≡ [] → (0 ≡ length (textOf (standing s room))) × (out ≡ wrote out (textOf (standing s room)))
+  none-stands : standing s room ≡ [] → (0 ≡ length (recordsText (standing s room))) × (out ≡ wrote out (recordsText (standing s room)))
   none-stands e =
-      let t : textOf (standing s room) ≡ [] = ap textOf e ∙ no-text in
+      let t : recordsText (standing s room) ≡ [] = ap recordsText e ∙ no-text in
       (sym (ap length t), none-wrote out ∙ sym (ap (wrote out) t))
 
-  pub nothing-stands : s ≡ Nothing → (0 ≡ length (textOf (standing s room))) × (out ≡ wrote out (textOf (standing s room)))
+  pub nothing-stands : s ≡ Nothing → (0 ≡ length (recordsText (standing s room))) × (out ≡ wrote out (recordsText (standing s room)))
   nothing-stands e = none-stands (ap (λ (q : Stands). standing q room) e)
 
-  pub refused-stands : (k p : ℕ) → s ≡ Refused k p → (0 ≡ length (textOf (standing s room))) × (out ≡ wrote out (textOf (standing s room)))
+  pub refused-stands : (k p : ℕ) → s ≡ Refused k p → (0 ≡ length (recordsText (standing s room))) × (out ≡ wrote out (recordsText (standing s room)))
   refused-stands k p e = none-stands (ap (λ (q : Stands). standing q room) e)
 
   module _ (n : ℕ) (e : s ≡ Records n) where
-    pub records-within : Within s room → n ≤ length room
-    records-within w = subst (λ (q : Stands). Within q room) e w
+    pub records-within : Stood s room → n ≤ length room
+    records-within w = subst (λ (q : Stands). Stood q room) e w
 
-    pub records-fit : length (textOf (standing s room)) ≤ length out → length (textOf (take n room)) ≤ length out
-    records-fit h = subst (λ (q : Stands). length (textOf (standing q room)) ≤ length out) e h
+    pub records-fit : length (recordsText (standing s room)) ≤ length out → length (recordsText (take n room)) ≤ length out
+    records-fit h = subst (λ (q : Stands). length (recordsText (standing q room)) ≤ length out) e h
 
-    pub records-stand : (v : ℕ) (x : List ℕ) → v ≡ length (textOf (take n room)) → x ≡ wrote out (textOf (take n room))
-        → (v ≡ length (textOf (standing s room))) × (x ≡ wrote out (textOf (standing s room)))
+    pub records-stand : (v : ℕ) (x : List ℕ) → v ≡ length (recordsText (take n room)) → x ≡ wrote out (recordsText (take n room))
+        → (v ≡ length (recordsText (standing s room))) × (x ≡ wrote out (recordsText (standing s room)))
     records-stand v x f g =
-        let t = sym (ap (λ (q : Stands). textOf (standing q room)) e) in
+        let t = sym (ap (λ (q : Stands). recordsText (standing q room)) e) in
         (f ∙ ap length t, g ∙ ap (wrote out) t)
 
 -- ---- a call: what stands in the room are the records of what it ended
-
-length-wrote : (room t : List ℕ) → length t ≤ length room → length (wrote room t) ≡ length room
-unfolding wrote
-length-wrote room t h = omega (arith, length-append t (drop (length t) room), length-drop (length t) room)
-
-pub take-wrote : (room t : List ℕ) → take (length t) (wrote room t) ≡ t
-unfolding wrote
-take-wrote room t = take-at t (drop (length t) room) (length t) refl
 
 stand-records : (o : Outcome) (b room : List ℕ) → standing (standsBy o b) (wrote room (recordsBy o b)) ≡ recordsBy o b
 stand-records outcome.More b room = refl
 stand-records (outcome.Line n) b room = take-wrote room (recordsBy (outcome.Line n) b)
 stand-records (outcome.Refused n p) b room = take-wrote room (recordsBy (outcome.Refused n p) b)
 
-stand-within : (o : Outcome) (b room : List ℕ) → 399 ≤ length room → Within (standsBy o b) (wrote room (recordsBy o b))
+stand-within : (o : Outcome) (b room : List ℕ) → 399 ≤ length room → Stood (standsBy o b) (wrote room (recordsBy o b))
 stand-within outcome.More b room h = tt
 stand-within (outcome.Line n) b room h =
     let l = records-most (outcome.Line n) b in
@@ -174,24 +165,24 @@ module _ (s : Joiner) (b p room : List ℕ) (f : fit s b ≡ true) (h : length r
   stands-is : r .stands ≡ standsBy (joinOf s b p .answer .outcome) (joinOf s b p .buffer)
   stands-is = ap (λ (l : Listed). l .stands) answer-is
 
-  pub call-within : Within (r .stands) x
+  pub call-within : Stood (r .stands) x
   call-within =
-      subst (λ (v : Stands). Within v x) (sym stands-is)
-      (subst (Within (standsBy (joinOf s b p .answer .outcome) (joinOf s b p .buffer))) (sym room-is)
+      subst (λ (v : Stands). Stood v x) (sym stands-is)
+      (subst (Stood (standsBy (joinOf s b p .answer .outcome) (joinOf s b p .buffer))) (sym room-is)
       (stand-within (joinOf s b p .answer .outcome) (joinOf s b p .buffer) room long))
 
-  text-is : textOf (standing (r .stands) x) ≡ ranText (joinOf s b p)
+  text-is : recordsText (standing (r .stands) x) ≡ ranText (joinOf s b p)
   unfolding outcomeText
   text-is =
-      ap (λ (v : Stands). textOf (standing v x)) stands-is
-      ∙ ap (λ (l : List ℕ). textOf (standing (standsBy (joinOf s b p .answer .outcome) (joinOf s b p .buffer)) l)) room-is
-      ∙ ap textOf (stand-records (joinOf s b p .answer .outcome) (joinOf s b p .buffer) room)
+      ap (λ (v : Stands). recordsText (standing v x)) stands-is
+      ∙ ap (λ (l : List ℕ). recordsText (standing (standsBy (joinOf s b p .answer .outcome) (joinOf s b p .buffer)) l)) room-is
+      ∙ ap recordsText (stand-records (joinOf s b p .answer .outcome) (joinOf s b p .buffer) room)
 
-  pub call-fits : (out : List ℕ) → longest ≤ length out → length (textOf (standing (r .stands) x)) ≤ length out
+  pub call-fits : (out : List ℕ) → longest ≤ length out → length (recordsText (standing (r .stands) x)) ≤ length out
   call-fits out l = omega (arith, ap length text-is, text-fits (joinOf s b p .answer .outcome) (joinOf s b p .buffer))
 
-  pub call-done : (b′ out out′ : List ℕ) (n k : ℕ) → b′ ≡ callOf s b p room .buffer → n ≡ length (textOf (standing (r .stands) x))
-      → out′ ≡ wrote out (textOf (standing (r .stands) x)) → k ≡ linesIn (r .stands)
+  pub call-done : (b′ out out′ : List ℕ) (n k : ℕ) → b′ ≡ callOf s b p room .buffer → n ≡ length (recordsText (standing (r .stands) x))
+      → out′ ≡ wrote out (recordsText (standing (r .stands) x)) → k ≡ linesIn (r .stands)
       → (_≡_ {A = Called} (record { state = r .state; used = r .used; lines = k; text = n }) (calledBy (joinOf s b p)))
       × ((b′ ≡ joinOf s b p .buffer) × (out′ ≡ wrote out (ranText (joinOf s b p))))
   call-done b′ out out′ n k eb en eo ek =

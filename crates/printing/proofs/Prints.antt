@@ -9,6 +9,7 @@ use lib.ListN.{length, take, drop, replicate, length-drop}
 use lib.Seq.{drop-drop, take-all}
 use lib.Dec.{leb}
 use Rattle.text.proofs.Slices.{drop-take}
+use Rattle.text.proofs.Writes.{take-wrote}
 use borrow.Author.Tests.{lt-ltb}
 use Rattle.text.proofs.Tests.{and-r}
 use Rattle.text.specs.declared.Answer.the-variants.{Wrote}
@@ -26,7 +27,6 @@ use Rattle.lister.specs.Lister.{fit}
 use Rattle.wording.specs.Words.{wordingFrom, wordingOf}
 use Rattle.printing.specs.Printing.{longest, mayCall, mayPrint, linesBy, outcomeText, ranText, Print, noneYet, andThen, printFrom, printOf, PartPrint, printedBy, unprinted, partPrint}
 use Rattle.printing.specs.Prints.{linesText, Prints, done, call}
-use Rattle.printing.proofs.PrintLaws.{take-wrote}
 use Rattle.printing.proofs.LoopLaws.{may-fit, fit-on, used-some, print-on, print-some}
 
 -- ---- the text of what a call gives

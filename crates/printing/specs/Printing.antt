@@ -18,8 +18,12 @@ use Rattle.printing.specs.declared.Printed.{Printed}
 
 -- ---- one call of the joiner: the text of the records that it gives, and how many lines it ends
 
+-- the text of records, and none where one of them is bad
+abbrev pub recordsText : List ℕ → List ℕ
+recordsText rs = wordedText (wordingOf rs)
+
 unfoldable pub outcomeText : Outcome → List ℕ → List ℕ
-outcomeText o b = wordedText (wordingOf (recordsBy o b))
+outcomeText o b = recordsText (recordsBy o b)
 
 abbrev pub linesBy : Outcome → ℕ
 linesBy outcome.More = 0

@@ -8,9 +8,7 @@ use Rattle.joiner.specs.declared.Joiner.{Joiner}
 use Rattle.joiner.specs.Lines.{Given, line, refused}
 use Rattle.reading.specs.Reading.{readingOf}
 use Rattle.reading.specs.Records.{listedIn, refusalRecord}
-use Rattle.wording.specs.Words.{wordingOf}
-use Rattle.wording.specs.Steps.{wordedText}
-use Rattle.printing.specs.Printing.{partPrint}
+use Rattle.printing.specs.Printing.{recordsText, partPrint}
 
 -- the records of a line that a capture gives: its reading's or its refusal's
 abbrev pub givenRecords : Given → List ℕ
@@ -20,7 +18,7 @@ givenRecords (refused k n t) = refusalRecord k n
 -- their text, line after line
 unfoldable pub linesText : List Given → List ℕ
 linesText [] = []
-linesText (g ∷ gs) = wordedText (wordingOf (givenRecords g)) ++ linesText gs
+linesText (g ∷ gs) = recordsText (givenRecords g) ++ linesText gs
 
 -- Each call sees any beginning of what is left, n bytes, with any room for the text. Where it writes w bytes, these are handed over from the room's start,
 -- and what it used goes. All that is handed over, in order, how many lines are told, and the state that is left.

@@ -5,14 +5,8 @@ use lib.ListN.{length, take}
 use Rattle.joiner.specs.Join.{Ran}
 use Rattle.lister.specs.declared.Stands.{Stands}
 use Rattle.lister.specs.declared.Stands.the-variants.{Nothing, Records, Refused}
-use Rattle.wording.specs.Words.{wordingOf}
-use Rattle.wording.specs.Steps.{wordedText}
 use Rattle.printing.specs.declared.Called.{Called}
 use Rattle.printing.specs.Printing.{linesBy, ranText}
-
--- the text of some records, nothing where one of them is bad
-abbrev pub textOf : List ℕ → List ℕ
-textOf rs = wordedText (wordingOf rs)
 
 -- the records that stand in a room
 abbrev pub standing : Stands → List ℕ → List ℕ
@@ -21,10 +15,10 @@ standing (Records n) room = take n room
 standing (Refused k p) room = []
 
 -- what stands in a room is no longer than it
-abbrev pub Within : Stands → List ℕ → Type 0
-Within Nothing room = Unit {0}
-Within (Records n) room = n ≤ length room
-Within (Refused k p) room = Unit {0}
+abbrev pub Stood : Stands → List ℕ → Type 0
+Stood Nothing room = Unit {0}
+Stood (Records n) room = n ≤ length room
+Stood (Refused k p) room = Unit {0}
 
 abbrev pub linesIn : Stands → ℕ
 linesIn Nothing = 0

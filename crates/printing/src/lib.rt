@@ -13,8 +13,8 @@ ghost use Rattle.text.specs.Room.{wrote};
 ghost use Rattle.joiner.specs.Step.{reachable};
 ghost use Rattle.joiner.specs.Join.{joinOf};
 ghost use Rattle.lister.specs.Lister.{fit};
-ghost use Rattle.printing.specs.Printing.{longest, mayCall, mayPrint, ranText, partPrint};
-ghost use Rattle.printing.specs.Steps.{textOf, standing, Within, linesIn, calledBy};
+ghost use Rattle.printing.specs.Printing.{longest, mayCall, mayPrint, ranText, partPrint, recordsText};
+ghost use Rattle.printing.specs.Steps.{standing, Stood, linesIn, calledBy};
 
 // What printing a part gives: the state, how many bytes were used, how many lines they ended, and how many bytes of text were written.
 pub struct Printed {
@@ -75,8 +75,8 @@ fn may_call(left: usize, room: usize) -> bool
 
 // The text of records in room for it; tells how many bytes it is.
 fn put_text(records: &[u8], out: &mut [u8]) -> usize
-    requires { ⌜ length (textOf (now records)) ≤ length (now out) ⌝ }
-    ensures { λ r. ⌜ (r ≡ length (textOf (now (records .entry)))) × (now (out .exit) ≡ wrote (now (out .entry)) (textOf (now (records .entry)))) ⌝ }
+    requires { ⌜ length (recordsText (now records)) ≤ length (now out) ⌝ }
+    ensures { λ r. ⌜ (r ≡ length (recordsText (now (records .entry)))) × (now (out .exit) ≡ wrote (now (out .entry)) (recordsText (now (records .entry)))) ⌝ }
 {
     let a = records_text(records, out);
     match a {
@@ -90,9 +90,9 @@ fn put_text(records: &[u8], out: &mut [u8]) -> usize
 
 // The text of what stands in a room, in room for it; tells how many bytes it is.
 fn put_stands(s: Stands, room: &[u8], out: &mut [u8]) -> usize
-    requires { ⌜ Within s (now room) ⌝ }
-    requires { ⌜ length (textOf (standing s (now room))) ≤ length (now out) ⌝ }
-    ensures { λ r. ⌜ (r ≡ length (textOf (standing s (now (room .entry))))) × (now (out .exit) ≡ wrote (now (out .entry)) (textOf (standing s (now (room .entry))))) ⌝ }
+    requires { ⌜ Stood s (now room) ⌝ }
+    requires { ⌜ length (recordsText (standing s (now room))) ≤ length (now out) ⌝ }
+    ensures { λ r. ⌜ (r ≡ length (recordsText (standing s (now (room .entry))))) × (now (out .exit) ≡ wrote (now (out .entry)) (recordsText (standing s (now (room .entry))))) ⌝ }
 {
     match s {
         Stands::Nothing => 0,

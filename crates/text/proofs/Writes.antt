@@ -8,7 +8,7 @@ use native.Mathlib.Numerals.{add-one}
 use native.Mathlib.Omega.{arith}
 use borrow.Author.Tests.{le-leb, lt-leb}
 use lib.Dec.{leb}
-use lib.ListN.{length, getD, take, drop, set, length-set}
+use lib.ListN.{length, getD, take, drop, set, length-set, length-append, length-drop}
 use lib.Seq.{sets, sets-eq, set-out, take-nil, take-suc, take-at, length-take-le}
 use Rattle.text.specs.declared.Answer.the-variants.{Wrote, Refused}
 use Rattle.text.specs.Room.{wrote, fitted, filled}
@@ -58,9 +58,18 @@ pub sets-fill : (room t : List ℕ) → length t ≤ length room → sets room 0
 unfolding wrote
 sets-fill room t h = let e : 0 + length t ≡ length t = omega arith in sets-eq t room 0 (omega arith) ∙ ap (λ (k : ℕ). t ++ drop k room) e
 
+-- such a room has its size, and begins with the text
+pub length-wrote : (room t : List ℕ) → length t ≤ length room → length (wrote room t) ≡ length room
+unfolding wrote
+length-wrote room t h = omega (arith, length-append t (drop (length t) room), length-drop (length t) room)
+
+pub take-wrote : (room t : List ℕ) → take (length t) (wrote room t) ≡ t
+unfolding wrote
+take-wrote room t = take-at t (drop (length t) room) (length t) refl
+
 -- what was stored in a room that holds it
 pub held-is : (room held s : List ℕ) (n : ℕ) → held ≡ sets room 0 s → n ≡ length s → length s ≤ length room → take n held ≡ s
-held-is room held s n e p h = ap (take n) (e ∙ sets-fill room s h) ∙ (unfold wrote in take-at s (drop (length s) room) n (sym p))
+held-is room held s n e p h = ap (take n) (e ∙ sets-fill room s h) ∙ ap (λ (k : ℕ). take k (wrote room s)) p ∙ take-wrote room s
 
 -- the answer and the room, where the text has room and where it has none
 pub fitted-room : (n : ℕ) (t : List ℕ) → length t ≤ n → fitted n t ≡ Wrote (length t)
