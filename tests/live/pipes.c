@@ -4,7 +4,8 @@
  *     pipes stops PROGRAM            reads that are interrupted: the lister is stopped while it reads, and goes on
  *     pipes slow PROGRAM CAPTURE     a non-blocking output that is full: what comes out goes to standard output
  *     pipes held PROGRAM CAPTURE     writes that are interrupted, likewise
- *     pipes parts PROGRAM CAPTURE    the capture in small parts, one to each read */
+ *     pipes parts PROGRAM CAPTURE    the capture in small parts, one to each read
+ *     pipes memory PROGRAM CAPTURE   how many kB of stack and of resident memory were most, once all of the capture is read */
 #define _GNU_SOURCE
 #include <errno.h>
 #include <fcntl.h>
@@ -118,20 +119,27 @@ static long ended(int fd)
     return (used.ru_utime.tv_sec + used.ru_stime.tv_sec) * 1000 + (used.ru_utime.tv_usec + used.ru_stime.tv_usec) / 1000;
 }
 
+/* What the system says of the lister, from a key on. */
+static const char *known(const char *key)
+{
+    static char text[8192];
+    char name[64];
+    snprintf(name, sizeof name, "/proc/%ld/status", (long)child);
+    FILE *f = fopen(name, "r");
+    if (f == NULL)
+        fail("there is no /proc to look at the lister");
+    size_t n = fread(text, 1, sizeof text - 1, f);
+    fclose(f);
+    text[n] = 0;
+    const char *at = strstr(text, key);
+    return at == NULL ? "" : at + strlen(key);
+}
+
 /* Waits until the lister sleeps. */
 static void asleep(void)
 {
-    char name[64], text[256];
-    snprintf(name, sizeof name, "/proc/%ld/stat", (long)child);
     for (int i = 0; i < PATIENCE; i++) {
-        FILE *f = fopen(name, "r");
-        if (f == NULL)
-            fail("there is no /proc to look at the lister");
-        size_t n = fread(text, 1, sizeof text - 1, f);
-        fclose(f);
-        text[n] = 0;
-        char *state = strrchr(text, ')');
-        if (state != NULL && state[1] == ' ' && state[2] == 'S')
+        if (strncmp(known("\nState:"), "\tS", 2) == 0)
             return;
         nap(1);
     }
@@ -275,6 +283,28 @@ static void parts(const char *program, int capture)
     ended(-1);
 }
 
+static void memory(const char *program, int capture)
+{
+    int in[2], there = 1;
+    static char bytes[4096];
+    ssize_t n;
+    ends(in, 0);
+    start(program, in[0], open("/dev/null", O_WRONLY | O_CLOEXEC));
+    close(in[0]);
+    while ((n = read(capture, bytes, sizeof bytes)) > 0)
+        if (write(in[1], bytes, (size_t)n) != n)
+            fail("the input takes nothing more");
+    for (int i = 0; i < PATIENCE && there > 0; i++) {
+        nap(1);
+        ioctl(in[1], FIONREAD, &there);
+    }
+    asleep();
+    long stack = atol(known("\nVmStk:"));
+    printf("%ld %ld\n", stack, atol(known("\nVmHWM:")));
+    close(in[1]);
+    ended(-1);
+}
+
 int main(int count, char **words)
 {
     int capture = -1;
@@ -293,6 +323,8 @@ int main(int count, char **words)
         held(words[2], capture);
     else if (capture >= 0 && strcmp(words[1], "parts") == 0)
         parts(words[2], capture);
+    else if (capture >= 0 && strcmp(words[1], "memory") == 0)
+        memory(words[2], capture);
     else
         fail("usage: pipes WHAT PROGRAM [CAPTURE]");
     return 0;
