@@ -1,24 +1,28 @@
 -- What answers tell of lies within the room that was lent for it. Assumes nothing.
-use Prim.Native.Nat.{ℕ, _≤_}
+use Prim.Native.Nat.{ℕ, _≤_, _<_}
 use native.Mathlib.Omega.{arith}
 use mathlib.Core.Path.{_≡_, refl, sym, ap, subst, _∙_}
 use mathlib.Core.List.{List}
-use mathlib.Core.Bool.{Bool, true, false, cond}
-use lib.Dec.{T, leb, leb→le}
+use mathlib.Core.Bool.{Bool, true, false, _&&_, cond}
+use lib.Dec.{T, eqb, leb, leb→le}
 use lib.ListN.{length}
+use borrow.Author.Tests.{le-leb, eq-eqb}
 use Rattle.text.specs.declared.Answer.{Answer}
 use Rattle.text.specs.declared.Answer.the-variants as answers
 use Rattle.joiner.specs.declared.Joiner.{Joiner}
 use Rattle.joiner.specs.declared.End.{End}
 use Rattle.joiner.specs.declared.End.the-variants as end′
+use Rattle.joiner.specs.Step.{start, reachable}
 use Rattle.wording.specs.Words.{Worded, textAnswer}
 use Rattle.wording.proofs.WordingLaws.{wrote-within}
 use Rattle.lister.specs.declared.Stands.{Stands}
 use Rattle.lister.specs.declared.Stands.the-variants.{Nothing, Records, Refused}
-use Rattle.lister.specs.Lister.{endStands}
+use Rattle.lister.specs.Lister.{fit, endStands}
 use Rattle.printing.specs.declared.Printed.{Printed}
-use Rattle.printing.specs.Printing.{partPrint}
+use Rattle.printing.specs.Printing.{longest, mayPrint, printOf, PartPrint, partPrint}
+use Rattle.printing.proofs.LoopLaws.{print-some}
 use Rattle.printing.proofs.Bounds.{part-within, part-wrote}
+use Rattle.printing.proofs.Prints.{print-uses, print-fit}
 use Rattle.clplist.specs.Handing.{Within}
 
 -- the text of records
@@ -55,3 +59,25 @@ module _ (r : Printed) (s : Joiner) (b p out : List ℕ) (e : r ≡ partPrint s 
 
   pub print-used : r .used ≤ length p
   print-used = omega (arith, ap (λ (x : Printed). x .used) e, part-within s b p out)
+
+  -- from a state that some capture leads to a part is printed, and what is left is such a state again
+  module _ (f : fit s b ≡ true) (h : longest ≤ length out) where
+    may : mayPrint s b (length out) ≡ true
+    may = ap (λ (z : Bool). z && leb longest (length out)) f ∙ le-leb longest (length out) h
+
+    pub print-some-used : 0 < length p → 0 < r .used
+    print-some-used g =
+        omega (arith, ap (λ (x : Printed). x .used) e, ap (λ (x : PartPrint). x .answer .used) (print-some s b p out may), print-uses s b p (length out) may g)
+
+    pub print-fits : (x : List ℕ) → x ≡ partPrint s b p out .buffer → fit (r .state) x ≡ true
+    print-fits x q =
+        let P = printOf s b p (length out) in
+        let w = print-some s b p out may in
+        let t : r .state ≡ P .state = ap (λ (y : Printed). y .state) e ∙ ap (λ (y : PartPrint). y .answer .state) w in
+        let u : x ≡ P .buffer = q ∙ ap (λ (y : PartPrint). y .buffer) w in
+        (λ i. fit (t i) (u i)) ∙ print-fit s b p (length out) f
+
+-- the first state is one
+pub start-fits : (s : Joiner) (b : List ℕ) → s ≡ start → length b ≡ 1024 → fit s b ≡ true
+unfolding reachable
+start-fits s b e h = ap (λ (x : Joiner). eqb (length b) 1024 && reachable x) e ∙ ap (λ (z : Bool). z && reachable start) (eq-eqb (length b) 1024 h)

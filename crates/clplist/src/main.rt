@@ -13,8 +13,12 @@ use lister::end_answer;
 use printing::print_part;
 use text::Answer;
 use wording::records_text;
+ghost use mathlib.Core.Path.{_≡_};
+ghost use mathlib.Core.Bool.{true};
 ghost use Prim.Native.Nat.{_≤_};
 ghost use lib.ListN.{length};
+ghost use Rattle.lister.specs.Lister.{fit};
+ghost use Rattle.printing.specs.Printing.{longest};
 ghost use Rattle.clplist.specs.Handing.{Within};
 
 // What is under way: the joiner's state, how many lines' text has been written, and whether reading and writing still work.
@@ -121,8 +125,12 @@ fn hand_over(a: Answer, text: &[u8]) -> bool
     }
 }
 
-// Lists a part of the capture, and writes its text, call after call.
-fn feed(run: Run, line: &mut [u8], part: &[u8], text: &mut [u8]) -> Run {
+// Lists all of a part of the capture, and writes its text, call after call; less only where writing fails.
+fn feed(run: Run, line: &mut [u8], part: &[u8], text: &mut [u8]) -> Run
+    requires { ⌜ fit (run .state) (now line) ≡ true ⌝ }
+    requires { ⌜ longest ≤ length (now text) ⌝ }
+    ensures { λ r. ⌜ fit (r .state) (now (line .exit)) ≡ true ⌝ }
+{
     let mut state = run.state;
     let mut listed = run.listed;
     let mut at: usize = 0;
@@ -132,14 +140,6 @@ fn feed(run: Run, line: &mut [u8], part: &[u8], text: &mut [u8]) -> Run {
         let used = p.used;
         let lines = p.lines;
         let a = p.answer;
-        if used == 0 {
-            refused();
-            return Run {
-                state,
-                listed,
-                open: false,
-            };
-        }
         at += used;
         if !hand_over(a, text) {
             tell(b"clplist: writing failed after ", listed);
@@ -159,7 +159,10 @@ fn feed(run: Run, line: &mut [u8], part: &[u8], text: &mut [u8]) -> Run {
 }
 
 // Reads and lists to the end of the input, or until reading or writing fails.
-fn list_all(line: &mut [u8], text: &mut [u8]) -> Run {
+fn list_all(line: &mut [u8], text: &mut [u8]) -> Run
+    requires { ⌜ length (now line) ≡ 1024 ⌝ }
+    requires { ⌜ longest ≤ length (now text) ⌝ }
+{
     let mut run = Run {
         state: Joiner::new(),
         listed: 0,

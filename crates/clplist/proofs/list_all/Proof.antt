@@ -1,12 +1,18 @@
 -- `clplist::list_all` meets its contract.
 use mathlib.Core.Path.{_≡_, refl}
+use mathlib.Core.Bool.{true}
+use Prim.Native.Nat.{_≤_}
+use native.Mathlib.Omega.{arith}
 use lib.ListN.{length}
+use Rattle.lister.specs.Lister.{fit}
+use Rattle.printing.specs.Printing.{longest}
+use Rattle.clplist.proofs.HandLaws.{start-fits}
 use borrow.Author.Needs.{needs}
 use Rattle.clplist.proofs.list_all.Statement.{statement}
 use Rattle.clplist.proofs.list_all.Tie as tie
 
 abbrev Inv-loop : tie.InvT-loop
-Inv-loop line₀ text₀ run₀ bytes₀ turns₀ t8 line text run bytes turns = (length line ≡ length line₀) × (length text ≡ length text₀) × (length bytes ≡ 65536)
+Inv-loop line₀ text₀ run₀ bytes₀ turns₀ t8 line text run bytes turns = (length line ≡ length line₀) × (length text ≡ length text₀) × (length bytes ≡ 65536) × (longest ≤ length text) × (fit (run .state) line ≡ true)
 
 abbrev μ-loop : tie.MeasureT-loop
 μ-loop line₀ text₀ run₀ bytes₀ turns₀ t8 line text run bytes turns = turns
@@ -18,7 +24,7 @@ large-buffer-requires : tie.Need-large-buffer-requires Inv-loop μ-loop
 large-buffer-requires c κs = search needs
 
 loop-holds : tie.Need-loop-holds Inv-loop μ-loop
-loop-holds c = (refl, refl, search needs)
+loop-holds c = let a = c .before .before .before .before .args in (refl, refl, search needs, search needs, start-fits (c .before .new .result) (a .line .now) (c .before .new .ensures) (c .before .before .before .before .pre .0))
 
 sub-turns : tie.Need-sub-turns Inv-loop μ-loop
 sub-turns c = search needs
@@ -66,7 +72,7 @@ slice-aggregate-feed : tie.Need-slice-aggregate-feed Inv-loop μ-loop
 slice-aggregate-feed c = search needs
 
 feed-requires : tie.Need-feed-requires Inv-loop μ-loop
-feed-requires c κs = search needs
+feed-requires c κs = let l = c .before .before .before .before .before .before .before .before .before .before .before .loop in (l .inv .4, l .inv .3)
 
 same-length-5 : tie.Need-same-length-5 Inv-loop μ-loop
 same-length-5 c = search needs
@@ -81,7 +87,7 @@ loop-less : tie.Need-loop-less Inv-loop μ-loop
 loop-less c = search needs
 
 loop-again : tie.Need-loop-again Inv-loop μ-loop
-loop-again c = (search needs, search needs, search needs)
+loop-again c = let f = c .before .before .before .before .before .before .feed in let l = c .before .before .before .before .before .before .before .before .before .before .before .before .before .before .before .before .before .before .loop in (omega (arith, f .kept .1 .0, l .inv .0), omega (arith, f .kept .1 .1 .1 .0, l .inv .1), search needs, omega (arith, f .kept .1 .1 .1 .0, l .inv .3), f .ensures)
 
 same-length-7 : tie.Need-same-length-7 Inv-loop μ-loop
 same-length-7 c = search needs
