@@ -256,9 +256,11 @@ static void slow(const char *program, int capture)
 
 static void held(const char *program, int capture)
 {
-    int out[2];
+    int out[2], room = 16384;
     sockets(out);
     limited(out[1]);
+    if (setsockopt(out[1], SOL_SOCKET, SO_SNDBUF, &room, sizeof room) != 0)
+        fail("a socket can't be given little room");
     start(program, capture, out[1]);
     close(out[1]);
     for (int i = 0; i < 5; i++)
