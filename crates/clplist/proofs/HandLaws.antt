@@ -23,10 +23,10 @@ use Rattle.printing.specs.Printing.{longest, mayPrint, printOf, PartPrint, part
 use Rattle.printing.proofs.LoopLaws.{print-some}
 use Rattle.printing.proofs.Bounds.{part-within, part-wrote}
 use Rattle.printing.proofs.Prints.{print-uses, print-fit}
-use Rattle.clplist.specs.Handing.{Within}
+use Rattle.clplist.specs.Handing.{Handed}
 
 -- the text of records
-pub text-within : (a : Answer) (room : ℕ) (u : Worded) → a ≡ textAnswer room u → Within a room
+pub text-within : (a : Answer) (room : ℕ) (u : Worded) → a ≡ textAnswer room u → Handed a room
 text-within (answers.Wrote n) room u e = wrote-within room u n e
 text-within (answers.Refused k p) room u e = tt
 
@@ -50,10 +50,10 @@ end-within m s e k h q = subst (Standing m) (sym h ∙ q) (end-standing m e)
 
 -- a part's text, and the bytes that were used of it
 module _ (r : Printed) (s : Joiner) (b p out : List ℕ) (e : r ≡ partPrint s b p out .answer) where
-  pub print-within : Within (r .answer) (length out)
+  pub print-within : Handed (r .answer) (length out)
   print-within = go (r .answer) (ap (λ (x : Printed). x .answer) (sym e))
     where
-      go : (a : Answer) → partPrint s b p out .answer .answer ≡ a → Within a (length out)
+      go : (a : Answer) → partPrint s b p out .answer .answer ≡ a → Handed a (length out)
       go (answers.Wrote n) h = part-wrote s b p out n h
       go (answers.Refused k q) h = tt
 
@@ -65,17 +65,15 @@ module _ (r : Printed) (s : Joiner) (b p out : List ℕ) (e : r ≡ partPrint s 
     may : mayPrint s b (length out) ≡ true
     may = ap (λ (z : Bool). z && leb longest (length out)) f ∙ le-leb longest (length out) h
 
+    told : partPrint s b p out .answer .answer ≡ answers.Wrote (length (printOf s b p (length out) .text))
+    told = ap (λ (x : PartPrint). x .answer .answer) (print-some s b p out may)
+
     pub print-some-used : 0 < length p → 0 < r .used
-    print-some-used g =
-        omega (arith, ap (λ (x : Printed). x .used) e, ap (λ (x : PartPrint). x .answer .used) (print-some s b p out may), print-uses s b p (length out) may g)
+    print-some-used g = omega (arith, ap (λ (x : Printed). x .used) e, print-uses s b p out _ told g)
 
     pub print-fits : (x : List ℕ) → x ≡ partPrint s b p out .buffer → fit (r .state) x ≡ true
     print-fits x q =
-        let P = printOf s b p (length out) in
-        let w = print-some s b p out may in
-        let t : r .state ≡ P .state = ap (λ (y : Printed). y .state) e ∙ ap (λ (y : PartPrint). y .answer .state) w in
-        let u : x ≡ P .buffer = q ∙ ap (λ (y : PartPrint). y .buffer) w in
-        (λ i. fit (t i) (u i)) ∙ print-fit s b p (length out) f
+        ap (λ (y : Printed). fit (y .state) x) e ∙ ap (fit (partPrint s b p out .answer .state)) q ∙ print-fit s b p out _ told
 
 -- the first state is one
 pub start-fits : (s : Joiner) (b : List ℕ) → s ≡ start → length b ≡ 1024 → fit s b ≡ true

@@ -4,6 +4,6 @@ use Rattle.text.specs.declared.Answer.{Answer}
 use Rattle.text.specs.declared.Answer.the-variants.{Wrote, Refused}
 
 -- the text that an answer tells of lies within so many bytes; a refusal has none
-abbrev pub Within : Answer → ℕ → Type 0
-Within (Wrote n) most = n ≤ most
-Within (Refused k p) most = Unit {0}
+abbrev pub Handed : Answer → ℕ → Type 0
+Handed (Wrote n) most = n ≤ most
+Handed (Refused k p) most = Unit {0}

@@ -19,7 +19,7 @@ ghost use Prim.Native.Nat.{_≤_};
 ghost use lib.ListN.{length};
 ghost use Rattle.lister.specs.Lister.{fit};
 ghost use Rattle.printing.specs.Printing.{longest};
-ghost use Rattle.clplist.specs.Handing.{Within};
+ghost use Rattle.clplist.specs.Handing.{Handed};
 
 // What is under way: the joiner's state, how many lines' text has been written, and whether reading and writing still work.
 struct Run {
@@ -114,7 +114,7 @@ fn write_text(text: &[u8]) -> usize
 
 // Writes the text that an answer tells of: whether all of it was taken. A refusal has none.
 fn hand_over(a: Answer, text: &[u8]) -> bool
-    requires { ⌜ Within a (length (now text)) ⌝ }
+    requires { ⌜ Handed a (length (now text)) ⌝ }
 {
     match a {
         Answer::Wrote(n) => write_text(&text[..n]) == n,

@@ -6,7 +6,7 @@ use lib.ListN.{take}
 use lib.Seq.{length-take-le}
 use Rattle.joiner.specs.Join.{endOf}
 use Rattle.wording.specs.Words.{wordingOf}
-use Rattle.clplist.specs.Handing.{Within}
+use Rattle.clplist.specs.Handing.{Handed}
 use Rattle.clplist.proofs.HandLaws.{text-within, end-within}
 use borrow.Author.Needs.{needs}
 use Rattle.clplist.proofs.finish.Statement.{statement}
@@ -34,7 +34,7 @@ records-text-requires : tie.Need-records-text-requires
 records-text-requires c κs = search needs
 
 hand-over-requires : tie.Need-hand-over-requires
-hand-over-requires c κs = let r = c .before .before .before .records-text in subst (λ (m : ℕ). Within (r .result) m) (sym (r .kept .1 .0)) (text-within (r .result) _ (wordingOf (take (c .before .before .before .before .before .before .before .s .given .0 .0) (c .before .before .before .before .before .before .before .before .before .before .end-answer .last .1 .0))) (r .ensures .0))
+hand-over-requires c κs = let r = c .before .before .before .records-text in subst (λ (m : ℕ). Handed (r .result) m) (sym (r .kept .1 .0)) (text-within (r .result) _ (wordingOf (take (c .before .before .before .before .before .before .before .s .given .0 .0) (c .before .before .before .before .before .before .before .before .before .before .end-answer .last .1 .0))) (r .ensures .0))
 
 slice-aggregate-tell : tie.Need-slice-aggregate-tell
 slice-aggregate-tell c = search needs

@@ -3,7 +3,7 @@ use mathlib.Core.Path.{sym, subst}
 use lib.ListN.{length}
 use lib.Seq.{length-take-le}
 use Rattle.text.specs.declared.Answer.{Answer}
-use Rattle.clplist.specs.Handing.{Within}
+use Rattle.clplist.specs.Handing.{Handed}
 use borrow.Author.Needs.{needs}
 use Rattle.clplist.proofs.hand_over.Statement.{statement}
 use Rattle.clplist.proofs.hand_over.Tie as tie
@@ -12,7 +12,7 @@ enum-known-a : tie.Need-enum-known-a
 enum-known-a c = search needs
 
 slice-aggregate-write-text : tie.Need-slice-aggregate-write-text
-slice-aggregate-write-text c = let a = c .before .before .before .before .before .args in sym (length-take-le _ _ (subst (λ (x : Answer). Within x (length (a .text .now))) (c .before .before .a .given .1) (c .before .before .before .before .before .pre)))
+slice-aggregate-write-text c = let a = c .before .before .before .before .before .args in sym (length-take-le _ _ (subst (λ (x : Answer). Handed x (length (a .text .now))) (c .before .before .a .given .1) (c .before .before .before .before .before .pre)))
 
 write-text-requires : tie.Need-write-text-requires
 write-text-requires c κs = search needs
