@@ -2,8 +2,9 @@
 use Prim.Native.Nat.{ℕ, zero, suc, _+_, _-_, _<_, _≤_}
 use mathlib.Core.Path.{_≡_, refl, sym, ap, _∙_}
 use mathlib.Core.List.{List, [], _∷_, _++_, append-assoc}
-use mathlib.Core.Bool.{Bool, true, false, cond, not, _&&_, and-true}
-use mathlib.Core.Option.{Option, none, some}
+use mathlib.Core.Bool.{Bool, true, false, cond, not, _&&_, _||_, and-true}
+use mathlib.Core.Option.{Option, none, some, Option·some-injective}
+use mathlib.Core.Logic.{⊎-elim}
 use native.Mathlib.Omega.{arith}
 use lib.ListN.{length, getD, take, drop, replicate, length-append, length-replicate, List·getD-map, List·getD-eq-default, length-drop}
 use lib.Seq.{length-take-le, take-append-seam, getD-append-add}
@@ -11,15 +12,15 @@ use lib.Dec.{eqb}
 use borrow.Author.Tests.{eq-eqb, ne-eqb, eqb-true, eqb-false}
 use Rattle.text.specs.Bytes.{bytes, sameBytes}
 use Rattle.text.specs.Lists.{isNil}
-use Rattle.text.proofs.Tests.{no-case}
+use Rattle.text.proofs.Tests.{either, or-case, no-case}
 use Rattle.text.proofs.Scans.{getD-within}
 use Rattle.words.specs.declared.Kind.{Kind}
 use Rattle.words.specs.declared.Kind.the-variants.{Mere, Keep, Level, Place, Entries}
 use Rattle.words.specs.declared.Known.the-variants.{Is, Unknown}
 use Rattle.words.specs.Tables.{known}
 use Rattle.words.specs.Words.{longNames, shortNames, names, find, or, verbOf, optionOf, kinds, kindOf, verbName, optionName, shortName, bodies, bodyOf, lenWith, recordLen}
-use Rattle.words.specs.Rows.{padded, verbRow, optionRow, kindNumber, kindAt, rowName, rowNames, bodyBytes, bodyAt}
-use Rattle.words.proofs.WordLaws.{verb-again, verb-only-name, verb-short, verb-out, option-shape, option-short, option-out, short-out, options-long, options-short, kind-out}
+use Rattle.words.specs.Rows.{padded, verbRow, optionRow, kindNumber, kindBytes, kindAt, rowName, rowNames, candidateOf, bodyBytes, bodyAt}
+use Rattle.words.proofs.WordLaws.{verb-again, verb-only-name, verb-short, verb-out, option-shape, option-short, option-out, option-only-name, short-out, options-long, options-short, kind-out, below, below-at}
 
 -- ---- the tables
 
@@ -45,7 +46,7 @@ verb-zeros n h = rw (verb-out n h)
 
 pub option-zeros : (n : ℕ) → 12 < n → replicate 16 0 ≡ optionRow n
 unfolding optionRow
-option-zeros n h = rw (option-out n h, short-out n h, kind-out n h)
+option-zeros n h = rw (option-out n h, short-out n h)
 
 -- ---- what a row says
 
@@ -66,14 +67,14 @@ unfolding optionRow
 option-row-name n =
     let long = optionName n in
     let zeros : List ℕ = replicate (11 - length long) 0 in
-    let rest : List ℕ = getD (shortName n) 0 0 ∷ kindNumber (kindOf n) ∷ 0 ∷ 0 ∷ [] in
+    let rest : List ℕ = getD (shortName n) 0 0 ∷ 0 ∷ 0 ∷ 0 ∷ [] in
     ap (take (length long)) (append-assoc long zeros rest) ∙ take-append-seam long (zeros ++ rest)
 
 pub option-row-fits : (n : ℕ) → getD (optionRow n) 0 0 < length (optionRow n)
 unfolding optionRow
 option-row-fits n =
     let long = optionName n in
-    let rest : List ℕ = getD (shortName n) 0 0 ∷ kindNumber (kindOf n) ∷ 0 ∷ 0 ∷ [] in
+    let rest : List ℕ = getD (shortName n) 0 0 ∷ 0 ∷ 0 ∷ 0 ∷ [] in
     omega (arith, option-short n, padded-length 11 long (option-short n), length-append (padded 11 long) rest)
 
 -- an option has a name of 1 to 11 bytes
@@ -85,14 +86,10 @@ option-row-long n a b = (some-bytes (optionName n) (option-shape n a b .0), opti
     some-bytes [] e = no-case e
     some-bytes (x ∷ s) e = omega arith
 
--- the kind of its argument
-pub option-row-kind : (n : ℕ) → kindAt (getD (optionRow n) 13 0) ≡ kindOf n
-unfolding optionRow kindAt
-option-row-kind n =
-    let long = optionName n in
-    let rest : List ℕ = getD (shortName n) 0 0 ∷ kindNumber (kindOf n) ∷ 0 ∷ 0 ∷ [] in
-    let e : 12 ≡ length (padded 11 long) + 1 = omega (arith, padded-length 11 long (option-short n)) in
-    ap kindAt (ap (λ i. getD (padded 11 long ++ rest) i 0) e ∙ getD-append-add (padded 11 long) rest 1 0) ∙ again (kindOf n)
+-- the kind of an option's argument is the one that the number in its table stands for
+pub kind-number : (n : ℕ) → kindAt (getD kindBytes n 0) ≡ kindOf n
+unfolding kindBytes kindOf kindAt
+kind-number n = ap kindAt (List·getD-map kindNumber kinds n Mere) ∙ again (getD kinds n Mere)
   where
     again : (k : Kind) → kindAt (kindNumber k) ≡ k
     again Mere = refl
@@ -169,24 +166,105 @@ find-options t = go (eqb (length t) 1) t refl
     go true t e = options-one t e ∙ ap (λ o. or o (find 1 shortNames t)) (sym (options-long t (eqb-true (length t) 1 e)))
     go false t e = options-many t e ∙ no-more (find 1 longNames t) ∙ ap (or (find 1 longNames t)) (sym (options-short t (eqb-false (length t) 1 e)))
 
--- the loop over the options: the answer from number n on is the answer
-module _ (t : List ℕ) (n : ℕ) (inv : findRow (13 - n) n t ≡ optionOf t) where
-  one-more : n < 13 → cond (rowNames (optionRow n) t) (some n) (findRow (13 - (n + 1)) (n + 1) t) ≡ optionOf t
-  unfolding findRow
-  one-more h =
-      let e : 13 - n ≡ suc (13 - (n + 1)) = omega arith in
-      let f : suc n ≡ n + 1 = omega arith in
-      ap (λ k. cond (rowNames (optionRow n) t) (some n) (findRow (13 - (n + 1)) k t)) (sym f) ∙ ap (λ m. findRow m n t) (sym e) ∙ inv
+-- what is found is named by its row, and what a row names is found
+found-named : (m k j : ℕ) (t : List ℕ) → findRow m k t ≡ some j → rowNames (optionRow j) t ≡ true
+unfolding findRow
+found-named zero k j t e = let z : _≡_ {A = ℕ} 0 1 = cc in absurd (omega arith)
+found-named (suc m) k j t e = go (rowNames (optionRow k) t) refl e (λ f. found-named m (suc k) j t f)
+  where
+    go : (b : Bool) → rowNames (optionRow k) t ≡ b → cond b (some k) (findRow m (suc k) t) ≡ some j
+        → (findRow m (suc k) t ≡ some j → rowNames (optionRow j) t ≡ true) → rowNames (optionRow j) t ≡ true
+    go true q f more = ap (λ i. rowNames (optionRow i) t) (sym (Option·some-injective k j f)) ∙ q
+    go false q f more = more f
 
-  pub row-hit : n < 13 → rowNames (optionRow n) t ≡ true → Is n ≡ known (optionOf t)
-  row-hit h e = ap known (rw e at (one-more h))
+named-found : (m k n : ℕ) (t : List ℕ) → k ≤ n → n < k + m → rowNames (optionRow n) t ≡ true → findRow m k t ≡ none → ⊥
+unfolding findRow
+named-found zero k n t a b q e = omega arith
+named-found (suc m) k n t a b q e = go (rowNames (optionRow k) t) refl e (λ h f. named-found m (suc k) n t h (omega arith) q f)
+  where
+    go : (w : Bool) → rowNames (optionRow k) t ≡ w → cond w (some k) (findRow m (suc k) t) ≡ none → (suc k ≤ n → findRow m (suc k) t ≡ none → ⊥) → ⊥
+    go true r f more = let z : _≡_ {A = ℕ} 0 1 = cc in omega arith
+    go false r f more =
+        either (eqb k n) (λ i. no-case (sym q ∙ ap (λ h. rowNames (optionRow h) t) (sym (eqb-true k n i)) ∙ r))
+        (λ i. let d = eqb-false k n i in more (omega (arith, d)) f)
 
-  pub row-miss : n < 13 → rowNames (optionRow n) t ≡ false → findRow (13 - (n + 1)) (n + 1) t ≡ optionOf t
-  row-miss h e = rw e at (one-more h)
+-- an option's names have it as their candidate
+candidates : below (λ k. eqb (candidateOf (getD (optionName (suc k)) 0 0) (length (optionName (suc k)))) (suc k)) 12 ≡ true
+unfolding below candidateOf optionName longNames bytes
+candidates = refl
 
-  pub row-none : 13 ≤ n → Unknown ≡ known (optionOf t)
-  unfolding findRow
-  row-none h = let e : 13 - n ≡ 0 = omega arith in ap known (ap (λ m. findRow m n t) (sym e) ∙ inv)
+short-candidates : below (λ k. isNil (shortName (suc k)) || eqb (candidateOf (getD (shortName (suc k)) 0 0) (length (shortName (suc k)))) (suc k)) 12 ≡ true
+unfolding below candidateOf shortName shortNames bytes
+short-candidates = refl
+
+long-candidate : (k : ℕ) → 1 ≤ k → k ≤ 12 → candidateOf (getD (optionName k) 0 0) (length (optionName k)) ≡ k
+long-candidate zero a b = absurd (omega arith)
+long-candidate (suc k) a b =
+    eqb-true (candidateOf (getD (optionName (suc k)) 0 0) (length (optionName (suc k)))) (suc k)
+    (below-at (λ k. eqb (candidateOf (getD (optionName (suc k)) 0 0) (length (optionName (suc k)))) (suc k)) 12 candidates k (omega arith))
+
+short-candidate : (k : ℕ) → 1 ≤ k → k ≤ 12 → isNil (shortName k) ≡ false → candidateOf (getD (shortName k) 0 0) (length (shortName k)) ≡ k
+short-candidate zero a b h = absurd (omega arith)
+short-candidate (suc k) a b h =
+    let c = eqb (candidateOf (getD (shortName (suc k)) 0 0) (length (shortName (suc k)))) (suc k) in
+    or-case (isNil (shortName (suc k))) c
+    (below-at (λ k. isNil (shortName (suc k)) || eqb (candidateOf (getD (shortName (suc k)) 0 0) (length (shortName (suc k)))) (suc k)) 12 short-candidates k (omega arith))
+    (λ e. no-case (sym e ∙ h)) (λ e. eqb-true (candidateOf (getD (shortName (suc k)) 0 0) (length (shortName (suc k)))) (suc k) e)
+
+candidate-is : (t : List ℕ) (k : ℕ) → optionOf t ≡ some k → (1 ≤ k) × (candidateOf (getD t 0 0) (length t) ≡ k)
+candidate-is t k e =
+    let r = option-only-name t k e in (
+      r .0,
+      ⊎-elim (λ q. ap (λ s. candidateOf (getD s 0 0) (length s)) q ∙ long-candidate k (r .0) (r .1))
+          (λ q. ap (λ s. candidateOf (getD s 0 0) (length s)) q ∙ short-candidate k (r .0) (r .1) (sym (ap isNil q) ∙ r .3)) (r .2),
+    )
+
+-- it is an option's number, or 0
+pub candidate-most : (x n : ℕ) → candidateOf x n ≤ 12
+unfolding candidateOf
+candidate-most x n =
+    if (eqb x 97) (omega arith) (if (eqb x 100) (if (eqb n 11) (omega arith) (omega arith)) (if (eqb x 101) (omega arith) (if (eqb x 120) (omega arith)
+    (if (eqb x 102) (omega arith) (if (eqb x 104) (omega arith) (if (eqb x 107) (omega arith) (if (eqb x 108) (omega arith) (if (eqb x 111) (omega arith)
+    (if (eqb x 115) (omega arith) (if (eqb x 118) (omega arith) (if (eqb x 119) (omega arith) (omega arith))))))))))))
+  where
+    if : {p q : ℕ} (b : Bool) → p ≤ 12 → q ≤ 12 → cond b p q ≤ 12
+    if true h k = h
+    if false h k = k
+
+-- a byte that no name begins with has none
+pub candidate-rest : (x n : ℕ) → (x ≡ 97 → ⊥) → (x ≡ 100 → ⊥) → (x ≡ 101 → ⊥) → (x ≡ 120 → ⊥) → (x ≡ 102 → ⊥) → (x ≡ 104 → ⊥) → (x ≡ 107 → ⊥) → (x ≡ 108 → ⊥) → (x ≡ 111 → ⊥) → (x ≡ 115 → ⊥) → (x ≡ 118 → ⊥) → (x ≡ 119 → ⊥) → candidateOf x n ≡ 0
+unfolding candidateOf
+candidate-rest x n a b c d e f g h i j k l =
+    simp (ne-eqb x 97 a, ne-eqb x 100 b, ne-eqb x 101 c, ne-eqb x 120 d, ne-eqb x 102 e, ne-eqb x 104 f, ne-eqb x 107 g, ne-eqb x 108 h, ne-eqb x 111 i, ne-eqb x 115 j, ne-eqb x 118 k, ne-eqb x 119 l)
+
+-- so the option that a text names is its candidate, if that row names it
+module _ (t : List ℕ) where
+  pub no-option : (o : Option ℕ) → optionOf t ≡ o → ((k : ℕ) → o ≡ some k → ⊥) → Unknown ≡ known (optionOf t)
+  no-option none e h = ap known (sym e)
+  no-option (some k) e h = absurd (h k refl)
+
+  pub empty-none : length t ≡ 0 → Unknown ≡ known (optionOf t)
+  empty-none h = no-option (optionOf t) refl (λ k e. omega (arith, h, some-length t (option-only-name t k e .3)))
+    where
+      some-length : (s : List ℕ) → isNil s ≡ false → 0 < length s
+      some-length [] e = no-case e
+      some-length (x ∷ s) e = omega arith
+
+  pub candidate-none : candidateOf (getD t 0 0) (length t) ≡ 0 → Unknown ≡ known (optionOf t)
+  candidate-none h = no-option (optionOf t) refl (λ k e. let r = candidate-is t k e in omega (arith, h, r .0, r .1))
+
+  module _ (n : ℕ) (is : n ≡ candidateOf (getD t 0 0) (length t)) where
+    pub row-hit : (n ≡ 0 → ⊥) → rowNames (optionRow n) t ≡ true → Is n ≡ known (optionOf t)
+    row-hit h e = go (optionOf t) refl
+      where
+        go : (o : Option ℕ) → optionOf t ≡ o → Is n ≡ known (optionOf t)
+        go none q = absurd (named-found 12 1 n t (omega arith) (omega (arith, candidate-most (getD t 0 0) (length t))) e (find-options t ∙ q))
+        go (some k) q = ap known (ap some (is ∙ candidate-is t k q .1) ∙ sym q)
+
+    pub row-miss : rowNames (optionRow n) t ≡ false → Unknown ≡ known (optionOf t)
+    row-miss e =
+        no-option (optionOf t) refl
+        (λ k q. no-case (sym (found-named 12 1 k t (find-options t ∙ q)) ∙ ap (λ j. rowNames (optionRow j) t) (sym (is ∙ candidate-is t k q .1)) ∙ e))
 
 -- ---- bodies
 

@@ -5,10 +5,11 @@ ghost use mathlib.Core.Bool.{cond};
 ghost use mathlib.Core.Option.{none, some};
 ghost use lib.ListN.{length, getD};
 ghost use lib.Seq.{sets};
+ghost use lib.Dec.{eqb};
 ghost use Rattle.text.specs.Bytes.{sameBytes};
 ghost use Rattle.words.specs.Words.{names, verbNames, verbOf, verbName, optionOf, optionName, kindOf, allName, sessionName, bodyOf, recordLen};
 ghost use Rattle.words.specs.Tables.{known};
-ghost use Rattle.words.specs.Rows.{findOf, verbRow, optionRow, rowName, rowNames, kindAt};
+ghost use Rattle.words.specs.Rows.{findOf, verbRow, optionRow, rowName, rowNames, candidateOf, kindAt};
 
 // The form of an option's argument; Mere: it takes none.
 pub enum Kind {
@@ -43,22 +44,38 @@ const VERBS: [[u8; 8]; 14] = [
     *b"\x07version",
 ];
 
-// The rows of the options, by number; 0 is no option's. A row: how many bytes the long name has, the name in 11, the short name or 0, the kind of
-// argument (1 keep, 2 level, 3 a place, 4 entries), two zeros.
+// The rows of the options, by number; 0 is no option's. A row: how many bytes the long name has, the name in 11, the short name or 0, three zeros.
 const OPTIONS: [[u8; 16]; 13] = [
     *b"\0\0\0\0\0\0\0\0\0\0\0\0\0\0\0\0",
     *b"\x03all\0\0\0\0\0\0\0\0a\0\0\0",
-    *b"\x0bdestination\0\x03\0\0",
-    *b"\x07display\0\0\0\0d\x04\0\0",
+    *b"\x0bdestination\0\0\0\0",
+    *b"\x07display\0\0\0\0d\0\0\0",
     *b"\x07examine\0\0\0\0x\0\0\0",
     *b"\x05force\0\0\0\0\0\0f\0\0\0",
     *b"\x04help\0\0\0\0\0\0\0h\0\0\0",
-    *b"\x04keep\0\0\0\0\0\0\0k\x01\0\0",
-    *b"\x05level\0\0\0\0\0\0l\x02\0\0",
-    *b"\x06output\0\0\0\0\0o\x04\0\0",
-    *b"\x06source\0\0\0\0\0\0\x03\0\0",
+    *b"\x04keep\0\0\0\0\0\0\0k\0\0\0",
+    *b"\x05level\0\0\0\0\0\0l\0\0\0",
+    *b"\x06output\0\0\0\0\0o\0\0\0",
+    *b"\x06source\0\0\0\0\0\0\0\0\0",
     *b"\x07version\0\0\0\0v\0\0\0",
     *b"\x04wait\0\0\0\0\0\0\0w\0\0\0",
+];
+
+// The form of each option's argument, by number: 1 keep, 2 level, 3 a place, 4 entries, 0 none.
+const KINDS: [u8; 13] = [
+    0,
+    0,
+    3, // destination
+    4, // display
+    0,
+    0,
+    0,
+    1, // keep
+    2, // level
+    4, // output
+    3, // source
+    0,
+    0,
 ];
 
 // What stands in BODIES for a kind that no record has.
@@ -188,14 +205,48 @@ pub fn is_all(t: &[u8]) -> bool
 pub fn option(t: &[u8]) -> Known
     ensures { λ r. ⌜ r ≡ known (optionOf (now (t .entry))) ⌝ }
 {
-    let mut n: u8 = 1;
-    while n < 13 {
-        if row_names(option_row(n), t) {
-            return Known::Is(n);
-        }
-        n += 1;
+    if t.len() == 0 {
+        return Known::Unknown;
+    }
+    let n = candidate(t[0], t.len());
+    if n == 0 {
+        return Known::Unknown;
+    }
+    if row_names(option_row(n), t) {
+        return Known::Is(n);
     }
     Known::Unknown
+}
+
+// The one option that a text can name, by its first byte and its length; 0 where there is none.
+fn candidate(first: u8, len: usize) -> u8
+    ensures { λ r. ⌜ r ≡ candidateOf first len ⌝ }
+{
+    match first {
+        b'a' => 1,
+        b'd' => begins_d(len),
+        b'e' => 4,
+        b'x' => 4,
+        b'f' => 5,
+        b'h' => 6,
+        b'k' => 7,
+        b'l' => 8,
+        b'o' => 9,
+        b's' => 10,
+        b'v' => 11,
+        b'w' => 12,
+        _ => 0,
+    }
+}
+
+// Of the two that begin with `d`, destination has 11 bytes.
+fn begins_d(len: usize) -> u8
+    ensures { λ r. ⌜ r ≡ cond (eqb len 11) 2 3 ⌝ }
+{
+    if len == 11 {
+        return 2;
+    }
+    3
 }
 
 // Whether a row of the options names a text.
@@ -218,8 +269,10 @@ fn row_names(row: [u8; 16], t: &[u8]) -> bool
 pub fn kind_of(n: u8) -> Kind
     ensures { λ r. ⌜ r ≡ kindOf n ⌝ }
 {
-    let row = option_row(n);
-    kind_at(row[13])
+    if 12 < n {
+        return Kind::Mere;
+    }
+    kind_at(KINDS[n as usize])
 }
 
 // The form that a row's number stands for.

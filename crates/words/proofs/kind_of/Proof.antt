@@ -1,16 +1,15 @@
 -- `words::kind_of` meets its contract.
-use mathlib.Core.Path.{ap, _∙_}
-use lib.ListN.{getD}
-use Prim.Native.Nat.{ℕ}
-use mathlib.Core.List.{List}
-use Rattle.words.specs.Rows.{kindAt}
-use Rattle.words.proofs.RowLaws.{option-row-kind}
+use mathlib.Core.Path.{sym, _∙_}
+use Rattle.words.specs.Words.{kinds}
+use Rattle.words.specs.Rows.{kindBytes}
+use Rattle.words.proofs.RowLaws.{kind-number}
+use Rattle.words.proofs.WordLaws.{kind-out}
 use borrow.Author.Needs.{needs}
 use Rattle.words.proofs.kind_of.Statement.{statement}
 use Rattle.words.proofs.kind_of.Tie as tie
 
-option-row-requires : tie.Need-option-row-requires
-option-row-requires c κs = search needs
+returns : tie.Need-returns
+returns c = sym (kind-out (c .before .args .n) (c .if1 .taken))
 
 array-read-kind-at : tie.Need-array-read-kind-at
 array-read-kind-at c = search needs
@@ -18,8 +17,9 @@ array-read-kind-at c = search needs
 kind-at-requires : tie.Need-kind-at-requires
 kind-at-requires c κs = search needs
 
-returns : tie.Need-returns
-returns c = c .kind-at .ensures ∙ ap (λ (row : List ℕ). kindAt (getD row 13 0)) (c .before .option-row .ensures) ∙ option-row-kind (c .before .before .args .n)
+returns-2 : tie.Need-returns-2
+unfolding kindBytes kinds
+returns-2 c = c .kind-at .ensures ∙ kind-number (c .before .before .args .n)
 
 pub kind-of-spec : {M : Type 1} → statement M
-kind-of-spec = tie.close (tie.spec option-row-requires array-read-kind-at kind-at-requires returns)
+kind-of-spec = tie.close (tie.spec returns array-read-kind-at kind-at-requires returns-2)
