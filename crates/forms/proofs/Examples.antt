@@ -2,7 +2,7 @@
 use Prim.Native.Nat.{ℕ}
 use Prim.Native.String.{String}
 use mathlib.Core.Path.{_≡_, refl}
-use mathlib.Core.List.{List, [], _∷_, map}
+use mathlib.Core.List.{List, [], _∷_, _++_, map}
 use mathlib.Core.Bool.{Bool, true, false}
 use lib.ListN.{length, replicate}
 use Rattle.text.specs.Bytes.{bytes, oneOf, sameBytes, isWord}
@@ -122,11 +122,12 @@ pub texts-placed : map (λ (e : Placed). places (e .0) (bytes (e .0))) placed �
 unfolding bytes sameBytes allOf upTo runLen parts valueFrom isDecimal sessionName tagLen isNumbered isStarred isSegment areSegments segmentOf segmentsOf pathOf targetOf whereIn segmentText segmentAt
 texts-placed = refl
 
--- a name of 64 bytes is one, and of 65 none; a list of 16 items is a value, and of 17 none; a path of 16 segments is a target, and of 17 none
+-- a name of 64 bytes is one, and of 65 none, alone and before `=`; a list of 16 items is a value, and of 17 none; a path of 16 segments is a target, and of 17 none
 pub limits :
     (isName (replicate 64 97) ≡ true) × (isName (replicate 65 97) ≡ false)
+    × (propertyIn (replicate 64 97 ++ bytes "=b") 66 ≡ shape.Is 64 1) × (propertyIn (replicate 65 97 ++ bytes "=b") 67 ≡ shape.No)
     × (isValueIn (bytes "(a,a,a,a,a,a,a,a,a,a,a,a,a,a,a,a)") 33 ≡ true) × (isValueIn (bytes "(a,a,a,a,a,a,a,a,a,a,a,a,a,a,a,a,a)") 35 ≡ false)
     × (whereIn (bytes "/a1/a1/a1/a1/a1/a1/a1/a1/a1/a1/a1/a1/a1/a1/a1/a1") ≡ where′.Path true 16)
     × (whereIn (bytes "/a1/a1/a1/a1/a1/a1/a1/a1/a1/a1/a1/a1/a1/a1/a1/a1/a1") ≡ where′.No)
-unfolding bytes oneOf sameBytes isWord allOf anyOf upTo past runLen parts every valueFrom isDecimal twelve two after gives signs raws stands isName isPlainSign endsQuote isText itemsIn isList listOf textOf valueOf isValueIn sessionName tagLen isNumbered isStarred isSegment areSegments segmentOf segmentsOf pathOf targetOf whereIn
-limits = (refl, refl, refl, refl, refl, refl)
+unfolding bytes oneOf sameBytes isWord allOf anyOf upTo past runLen parts every valueFrom isDecimal twelve two after gives signs raws stands isName isPlainSign endsQuote isText itemsIn isList listOf textOf valueOf saidOf propertyOf isValueIn propertyIn sessionName tagLen isNumbered isStarred isSegment areSegments segmentOf segmentsOf pathOf targetOf whereIn
+limits = (refl, refl, refl, refl, refl, refl, refl, refl)

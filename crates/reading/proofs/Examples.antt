@@ -17,7 +17,7 @@ use Rattle.words.specs.Words.{verbNames, longNames, shortNames, names, find, ve
 use Rattle.forms.specs.Forms.{isName, isKeep, isLevel, isPlace, isPlainSign, endsQuote, isText, itemsIn, isList, listOf, textOf, valueOf, entryOf, entryParts, entriesOf, saidOf, propertyOf, topicOf}
 use Rattle.forms.specs.Targets.{tagLen, isNumbered, isStarred, isSegment, areSegments, segmentsOf, pathOf, targetOf}
 use Rattle.reading.specs.Reading.{decideVerb, decideOption, decideArgument, decideTarget, decideProperty, decideAfter, decide, walkTerms, readingOf}
-use Rattle.reading.specs.Records.{recordsOf, listedIn, refusalRecord, cutRecord, targetSpan, targetPart}
+use Rattle.reading.specs.Records.{span, recordsOf, listedIn, refusalRecord, cutRecord, targetSpan, targetIn, targetPart}
 use Rattle.reading.specs.Cursor.{firstCursor}
 use Rattle.reading.specs.declared.Phase.the-variants.{First}
 use Rattle.reading.specs.Lines.{lines}
@@ -30,6 +30,11 @@ lines-answers = refl
 -- before a line's first term nothing is passed, seen or counted
 pub first-cursor : (firstCursor .at ≡ 0) × (firstCursor .state .phase ≡ First) × (firstCursor .state .seen ≡ replicate 13 false) × (firstCursor .state .count ≡ 0)
 first-cursor = (refl, refl, refl, refl)
+
+-- where the target of a line stands
+pub target-there : targetIn (readingOf (bytes "show /system1/cpu4")) ≡ span 5 13
+unfolding targetSpan bytes oneOf sameBytes isWord allOf anyOf upTo past runLen parts walk every valueFrom isDecimal twelve two after gives signs raws stands termsFrom termsOf longFlaw oddFlaw endMode openedAt openFlaw manyFrom manyFlaw lexicalOf verbNames longNames shortNames names find verbOf optionOf kinds kindOf allName sessionName isName isKeep isLevel isPlace isPlainSign endsQuote isText itemsIn isList listOf textOf valueOf entryOf entryParts entriesOf saidOf propertyOf topicOf tagLen isNumbered isStarred isSegment areSegments segmentsOf pathOf targetOf decideVerb decideOption decideArgument decideTarget decideProperty decideAfter decide walkTerms readingOf
+target-there = refl
 
 -- a line without a target, and lines that are refused at the target and after it, give no part
 pub no-target : (targetPart (bytes "show") ≡ []) × (targetPart (bytes "cd /system1/") ≡ []) × (targetPart (bytes "reset /system1 -f") ≡ [])

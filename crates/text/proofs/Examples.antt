@@ -64,12 +64,12 @@ pub runs-counted : map {B = Run} (λ (e : Run). (e .0, runLen isLetter (e .0), r
 unfolding bytes isWord runLen
 runs-counted = refl
 
--- a text is not the same as its start, nor as one with another case
+-- a text is not the same as its start, nor as one with another first or last byte
 abbrev Pair : Type 0
 Pair = String × String × Bool
 
 abbrev pub texts : List Pair
-texts = ("show", "show", true) ∷ ("show", "sho", false) ∷ ("sho", "show", false) ∷ ("show", "Show", false) ∷ ("", "", true) ∷ []
+texts = ("show", "show", true) ∷ ("show", "sho", false) ∷ ("sho", "show", false) ∷ ("show", "Show", false) ∷ ("show", "shop", false) ∷ ("", "", true) ∷ []
 
 pub texts-same : map {B = Pair} (λ (e : Pair). (e .0, e .1, sameBytes (bytes (e .0)) (bytes (e .1)))) texts ≡ texts
 unfolding bytes sameBytes

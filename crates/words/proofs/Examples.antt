@@ -17,7 +17,7 @@ pub not-session : (sameBytes (bytes "SESSION1") sessionName ≡ false) × (sameB
 unfolding sessionName sameBytes bytes
 not-session = (refl, refl, refl)
 
--- `d` is display, by its long name too, and nothing is a short name of destination; keep takes a number of its own form, level another
+-- `d` and `display` are display, `destination` is destination, and the empty text is no option; keep's argument has a form of its own, level's another
 pub options :
     (optionOf (bytes "d") ≡ some 3) × (optionOf (bytes "display") ≡ some 3) × (optionOf (bytes "destination") ≡ some 2) × (optionOf [] ≡ none)
     × (kindOf 7 ≡ Keep) × (kindOf 8 ≡ Level)

@@ -77,14 +77,24 @@ option-row-fits n =
     let rest : List ℕ = getD (shortName n) 0 0 ∷ 0 ∷ 0 ∷ 0 ∷ [] in
     omega (arith, option-short n, padded-length 11 long (option-short n), length-append (padded 11 long) rest)
 
+some-bytes : (s : List ℕ) → isNil s ≡ false → 0 < length s
+some-bytes [] e = no-case e
+some-bytes (x ∷ s) e = omega arith
+
 -- an option has a name of 1 to 11 bytes
 pub option-row-long : (n : ℕ) → 1 ≤ n → n ≤ 12 → (0 < getD (optionRow n) 0 0) × (getD (optionRow n) 0 0 ≤ 11)
 unfolding optionRow
 option-row-long n a b = (some-bytes (optionName n) (option-shape n a b .0), option-short n)
-  where
-    some-bytes : (s : List ℕ) → isNil s ≡ false → 0 < length s
-    some-bytes [] e = no-case e
-    some-bytes (x ∷ s) e = omega arith
+
+-- a row's first byte is how long its name is
+pub row-length : (row : List ℕ) → getD row 0 0 < length row → getD row 0 0 ≡ length (rowName row)
+row-length row h = sym (length-take-le (getD row 0 0) (drop 1 row) (omega (arith, length-drop 1 row)))
+
+-- the two forms of the verbs joined: the strings recognise a text as a number exactly where it is the name in that number's row
+pub verb-forms : (t : List ℕ) (k : ℕ) → 1 ≤ k → k ≤ 13 → (verbOf t ≡ some k → t ≡ rowName (verbRow k)) × (t ≡ rowName (verbRow k) → verbOf t ≡ some k)
+verb-forms t k a b = let e = verb-row-name k in (λ f. verb-only-name t k f .2 ∙ sym e, λ f. ap verbOf (f ∙ e) ∙ verb-again k a b)
+
+-- ---- kinds of argument
 
 -- the kind of an option's argument is the one that the number in its table stands for
 pub kind-number : (n : ℕ) → kindAt (getD kindBytes n 0) ≡ kindOf n
@@ -98,10 +108,6 @@ kind-number n = ap kindAt (List·getD-map kindNumber kinds n Mere) ∙ again (ge
     again Place = refl
     again Entries = refl
 
--- a row's first byte is how long its name is
-pub row-length : (row : List ℕ) → getD row 0 0 < length row → getD row 0 0 ≡ length (rowName row)
-row-length row h = sym (length-take-le (getD row 0 0) (drop 1 row) (omega (arith, length-drop 1 row)))
-
 -- a number that is no kind's stands for none
 pub kind-rest : (n : ℕ) → (n ≡ 1 → ⊥) → (n ≡ 2 → ⊥) → (n ≡ 3 → ⊥) → (n ≡ 4 → ⊥) → kindAt n ≡ Mere
 unfolding kindAt
@@ -111,10 +117,6 @@ kind-rest (suc (suc zero)) a b c d = absurd (b refl)
 kind-rest (suc (suc (suc zero))) a b c d = absurd (c refl)
 kind-rest (suc (suc (suc (suc zero)))) a b c d = absurd (d refl)
 kind-rest (suc (suc (suc (suc (suc n))))) a b c d = refl
-
--- the two forms of the verbs joined: the strings recognise a text as a number exactly where it is the name in that number's row
-pub verb-forms : (t : List ℕ) (k : ℕ) → 1 ≤ k → k ≤ 13 → (verbOf t ≡ some k → t ≡ rowName (verbRow k)) × (t ≡ rowName (verbRow k) → verbOf t ≡ some k)
-verb-forms t k a b = let e = verb-row-name k in (λ f. verb-only-name t k f .2 ∙ sym e, λ f. ap verbOf (f ∙ e) ∙ verb-again k a b)
 
 -- ---- a search among the options' rows
 
@@ -146,11 +148,11 @@ findRow (suc m) k t = let more = findRow m (suc k) t in cond (rowNames (optionRo
 
 -- the rows name what the short names do where the text has one byte, and what the long names do elsewhere
 options-one : (t : List ℕ) → eqb (length t) 1 ≡ true → findRow 12 1 t ≡ find 1 shortNames t
-unfolding findRow rowNames find optionRow optionName shortName kindOf longNames shortNames kinds bytes
+unfolding findRow rowNames find optionRow optionName shortName longNames shortNames bytes
 options-one t e = simp e
 
 options-many : (t : List ℕ) → eqb (length t) 1 ≡ false → findRow 12 1 t ≡ find 1 longNames t
-unfolding findRow rowNames find optionRow optionName shortName kindOf longNames shortNames kinds bytes
+unfolding findRow rowNames find optionRow optionName shortName longNames shortNames bytes
 options-many t e = simp e
 
 -- the search over the rows, both names at once, is the search over the long names and then over the short ones
@@ -244,11 +246,7 @@ module _ (t : List ℕ) where
   no-option (some k) e h = absurd (h k refl)
 
   pub empty-none : length t ≡ 0 → Unknown ≡ known (optionOf t)
-  empty-none h = no-option (optionOf t) refl (λ k e. omega (arith, h, some-length t (option-only-name t k e .3)))
-    where
-      some-length : (s : List ℕ) → isNil s ≡ false → 0 < length s
-      some-length [] e = no-case e
-      some-length (x ∷ s) e = omega arith
+  empty-none h = no-option (optionOf t) refl (λ k e. omega (arith, h, some-bytes t (option-only-name t k e .3)))
 
   pub candidate-none : candidateOf (getD t 0 0) (length t) ≡ 0 → Unknown ≡ known (optionOf t)
   candidate-none h = no-option (optionOf t) refl (λ k e. let r = candidate-is t k e in omega (arith, h, r .0, r .1))

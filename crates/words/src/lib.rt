@@ -275,7 +275,7 @@ pub fn kind_of(n: u8) -> Kind
     kind_at(KINDS[n as usize])
 }
 
-// The form that a row's number stands for.
+// The form that a number of KINDS stands for.
 fn kind_at(n: u8) -> Kind
     ensures { λ r. ⌜ r ≡ kindAt n ⌝ }
 {
