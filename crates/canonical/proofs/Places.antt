@@ -1,28 +1,31 @@
 -- Written arguments: numbers and places. And written names. Assumes nothing.
 use Prim.Native.Nat.{ℕ}
-use mathlib.Core.Path.{_≡_, refl, sym, ap, _∙_}
+use mathlib.Core.Path.{_≡_, refl, sym, ap, _∙_, subst}
 use mathlib.Core.List.{List, [], _∷_, append-nil}
 use mathlib.Core.Bool.{Bool, true, false, not, _&&_, _||_}
 use mathlib.Core.Option.{some}
+use lib.ListN.{length}
 use lib.Dec.{eqb}
 use borrow.Author.Tests.{eqb-true}
 use Rattle.canonical.specs.Canonical.{three, escapes, writeMore, writePlace}
+use Rattle.canonical.specs.Written.{levelIn}
 use Rattle.forms.specs.Forms.{hasEq, isKeep, isLevel, isMark, isPlace, starts}
 use Rattle.forms.specs.Targets.{isSeparator}
 use Rattle.terms.specs.Signs.{Sign, bare, escaped, isBare, quote, quoted, quotedEscaped, stands, standsFor, twelve, bares}
 use Rattle.text.specs.Bytes.{bytes, isDigit, isWord, oneOf, printable, sameBytes}
 use Rattle.text.specs.Decimal.{isDecimal}
 use Rattle.text.specs.Lists.{allOf, anyOf, isNil}
-use Rattle.words.specs.Words.{optionName, optionOf, verbName, verbOf, names, allName}
+use Rattle.words.specs.Words.{lowered, names, optionName, optionOf, verbName, verbOf, allName}
 use Rattle.canonical.proofs.Lexing.{okBare, okSign, good}
 use Rattle.canonical.proofs.Values.{good-bares, starts-none, word-byte}
 use Rattle.canonical.proofs.Targets.{okWritten, digit-segment, byte-segment}
-use Rattle.text.proofs.Tests.{and-l, and-r, and-in, or-l, or-r, no-case, or-case}
+use Rattle.text.proofs.Tests.{and-l, and-r, and-in, or-l, or-r, or-in-l, or-in-r, no-case, either, or-case}
 use Rattle.text.proofs.SameTexts.{same-eq}
 use Rattle.text.proofs.AllAny.{all-mono}
 use Rattle.terms.proofs.Bares.{none-bares}
 use Rattle.text.proofs.Decimals.{decimal-made}
-use Rattle.words.proofs.WordLaws.{verb-again, verb-shape, verb-only-name, option-again, option-shape, option-only-name}
+use Rattle.words.proofs.Folding.{lowered-length, lowered-again, lowered-digits}
+use Rattle.words.proofs.WordLaws.{names-either, verb-again, verb-shape, verb-only-name, option-again, option-shape, option-only-name}
 use Rattle.terms.specs.RowWords.{turns}
 
 -- ---- bare texts
@@ -50,32 +53,47 @@ unfolding isKeep isDecimal
 keep-some [] e = sym e
 keep-some (b ∷ s) e = refl
 
-all-written : allOf okWritten allName ≡ true
-unfolding allOf bytes allName
-all-written = refl
-
-all-some : (s : List ℕ) → sameBytes s allName ≡ true → isNil s ≡ false
-unfolding sameBytes bytes allName
-all-some [] e = sym e
-all-some (b ∷ s) e = refl
-
--- a name names a text that is the same bytes
-pub named : (n s : List ℕ) → names n s ≡ true → sameBytes s n ≡ true
-unfolding names
-named n s e = and-r (not (isNil n)) (sameBytes s n) e
-
 pub record NumberOk (s : List ℕ) : Type 0 where
   pub bytesOk : allOf okWritten s ≡ true
   pub isSome : isNil s ≡ false
 
+all-ok : NumberOk allName
+unfolding allOf bytes allName
+all-ok = record { bytesOk = refl; isSome = refl }
+
 pub keep-ok : (s : List ℕ) → isKeep s ≡ true → NumberOk s
 keep-ok s e = record { bytesOk = keep-written s e; isSome = keep-some s e }
 
-pub level-ok : (s : List ℕ) → isLevel s ≡ true → NumberOk s
+-- ---- levels: in lower case, `all` or the number as it is
+
+all-lowered : (s : List ℕ) → names allName s ≡ true → lowered s ≡ allName
+unfolding names
+all-lowered s e = same-eq (lowered s) allName (and-r (not (isNil allName)) (sameBytes (lowered s) allName) e)
+
+pub all-length : (s : List ℕ) → names allName s ≡ true → length s ≡ 3
+unfolding allName bytes
+all-length s e = sym (lowered-length s) ∙ ap length (all-lowered s e)
+
+keep-lowered : (s : List ℕ) → isKeep s ≡ true → lowered s ≡ s
+unfolding isKeep
+keep-lowered s e = lowered-digits s (decimal-made 4294967295 s e .all)
+
+pub level-told : (s : List ℕ) → isLevel s ≡ true → lowered s ≡ levelIn s
+unfolding isLevel levelIn
+level-told s e =
+    either (names allName s) (λ n. rw n (all-lowered s n))
+    (λ n. rw n (or-case (isKeep s) (names allName s) e (keep-lowered s) (λ m. no-case (sym m ∙ n))))
+
+pub level-again : (s : List ℕ) → isLevel s ≡ true → isLevel (lowered s) ≡ true
+unfolding isLevel
+level-again s e =
+    or-case (isKeep s) (names allName s) e (λ k. or-in-l (isKeep (lowered s)) (names allName (lowered s)) (ap isKeep (keep-lowered s k) ∙ k))
+    (λ n. or-in-r (isKeep (lowered s)) (names allName (lowered s)) (names-either allName (lowered s) s (lowered-again s) ∙ n))
+
+pub level-ok : (s : List ℕ) → isLevel s ≡ true → NumberOk (lowered s)
 unfolding isLevel
 level-ok s e =
-    or-case (isKeep s) (names allName s) e (keep-ok s)
-    (λ n. let p = named allName s n in record { bytesOk = ap (allOf okWritten) (same-eq s allName p) ∙ all-written; isSome = all-some s p })
+    or-case (isKeep s) (names allName s) e (λ k. subst NumberOk (sym (keep-lowered s k)) (keep-ok s k)) (λ n. subst NumberOk (sym (all-lowered s n)) all-ok)
 
 -- ---- places
 

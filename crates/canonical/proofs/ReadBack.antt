@@ -20,7 +20,7 @@ use Rattle.reading.specs.declared.State.{State}
 use Rattle.terms.specs.Signs.{Sign, bare, raws, stands, bares}
 use Rattle.text.specs.Bytes.{isLetter, isWord, printable}
 use Rattle.text.specs.Lists.{allOf, between, each, isNil}
-use Rattle.words.specs.Words.{kindOf, optionName, optionOf, verbName, verbOf}
+use Rattle.words.specs.Words.{lowered, kindOf, optionName, optionOf, verbName, verbOf}
 use Rattle.words.specs.declared.Kind.{Kind}
 use Rattle.words.specs.declared.Kind.the-variants.{Entries, Keep, Level, Place}
 use Rattle.canonical.proofs.Lexing.{good}
@@ -29,7 +29,8 @@ use Rattle.canonical.proofs.Values.{letter-byte, stands-clean}
 use Rattle.canonical.proofs.Names.{okSaid, okProperty, okEntry, okOptional, property-again, property-good, property-some, property-ok, topic-again}
 use Rattle.canonical.proofs.Entries.{entries-again, entries-good, entries-some, entries-ok}
 use Rattle.canonical.proofs.Targets.{okWritten, target-ok}
-use Rattle.canonical.proofs.Places.{written-good, written-eq, written-dash, keep-ok, level-ok, place-ok, stands-some, verb-ok, option-ok, NumberOk}
+use Rattle.words.proofs.Folding.{lowered-again}
+use Rattle.canonical.proofs.Places.{written-good, written-eq, written-dash, keep-ok, level-ok, level-again, place-ok, stands-some, verb-ok, option-ok, NumberOk}
 use Rattle.text.proofs.Tests.{and-l, and-r, no-case}
 use Rattle.text.proofs.AllAny.{map-some}
 use Rattle.terms.proofs.Bares.{raws-bares}
@@ -115,7 +116,9 @@ argument-ok k t a h c =
     let some′ = not-true (isNil t) (and-l (not (isNil t)) (allOf cleanSign t) c) in
     let clean = and-r (not (isNil t)) (allOf cleanSign t) c in
     argument-from ArgumentOk t (λ e. number-back Keep (raws t) (keep-ok (raws t) e) (simp (raws-bares (raws t), e)))
-    (λ e. number-back Level (raws t) (level-ok (raws t) e) (simp (raws-bares (raws t), e))) (λ e. place-back (stands t) (stands-some t some′ e) (stands-clean t clean))
+    (λ e.
+    let s = lowered (raws t) in
+    number-back Level s (level-ok (raws t) e) (simp (raws-bares s, level-again (raws t) e, lowered-again (raws t)))) (λ e. place-back (stands t) (stands-some t some′ e) (stands-clean t clean))
     (λ es e. let o = entries-ok t es e clean in entries-back es (o .0) (o .1)) k a h
 
 argument-back : (help : Bool) (seen : List Bool) (count n : ℕ) (t : List Sign) (a : Argument) → argumentBy (kindOf n) t ≡ some a → cleanText t ≡ true

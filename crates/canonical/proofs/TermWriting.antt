@@ -19,14 +19,15 @@ use Rattle.terms.specs.Signs.{bare, escaped, twelve, after, gives, signs, raw, 
 use Rattle.terms.proofs.SignBytes.{raws-signs}
 use Rattle.terms.proofs.Bares.{raws-bares}
 use Rattle.words.specs.declared.Kind.{Kind}
-use Rattle.words.specs.Words.{verbName, optionName, kindOf, sessionName}
-use Rattle.forms.specs.Forms.{starts, isMark, isPlace, Property, propertyOf, topicOf}
+use Rattle.words.specs.Words.{lowered, verbName, optionName, kindOf, sessionName}
+use Rattle.forms.specs.Forms.{starts, isMark, isLevel, isPlace, Property, propertyOf, topicOf}
 use Rattle.forms.specs.Targets.{isSeparator, Target, targetOf}
 use Rattle.reading.specs.declared.State.{State}
 use Rattle.reading.specs.Command.{Argument, argumentBy, Item, shownOf}
 use Rattle.reading.specs.Reading.{takes, decide}
 use Rattle.canonical.specs.Canonical.{writeProperty, three, escapes, writeMore, writePlace, writeArgument, writeTarget, writeItem}
-use Rattle.canonical.specs.Written.{graved, gravedAll, textsIn, leadsDash, dashGrave, placeIn, slash, slashed, argumentIn, written}
+use Rattle.canonical.specs.Written.{graved, gravedAll, textsIn, leadsDash, dashGrave, placeIn, slash, slashed, levelIn, argumentIn, written}
+use Rattle.canonical.proofs.Places.{level-told}
 use Rattle.canonical.proofs.TextWriting.{entries-written, topic-written, property-written}
 use Rattle.text.proofs.Classes.{other-byte}
 use Rattle.reading.proofs.TakenCases.{taken-case, argument-from}
@@ -134,10 +135,14 @@ place-written s p d =
 raw-written : (s : List ℕ) → raws (bares (raws (signs Out s))) ≡ s
 raw-written s = raws-bares (raws (signs Out s)) ∙ raws-signs s
 
+level-written : (s : List ℕ) → isLevel s ≡ true → raws (bares (lowered (raws (signs Out s)))) ≡ levelIn s
+level-written s e = raws-bares (lowered (raws (signs Out s))) ∙ ap lowered (raws-signs s) ∙ level-told s e
+
 argument-written : (k : Kind) (s : List ℕ) (a : Argument) → starts 45 (signs Out s) ≡ false → argumentBy k (signs Out s) ≡ some a → raws (writeArgument a) ≡ argumentIn k s
 unfolding textsIn
 argument-written k s a d h =
-    argument-from (λ j b. raws (writeArgument b) ≡ argumentIn j s) (signs Out s) (λ e. raw-written s) (λ e. raw-written s) (λ e. place-written s e d)
+    argument-from (λ j b. raws (writeArgument b) ≡ argumentIn j s) (signs Out s) (λ e. raw-written s)
+    (λ e. level-written s (ap isLevel (sym (raws-signs s)) ∙ e)) (λ e. place-written s e d)
     (λ es e. ap raws (sym (entries-written (signs Out s) es e))) k a h
 
 property-part : (help : Bool) (s : List ℕ) (p : Property) → cond help (topicOf (signs Out s)) (propertyOf (signs Out s)) ≡ some p → raws (writeProperty p) ≡ textsIn s

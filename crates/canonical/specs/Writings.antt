@@ -17,5 +17,7 @@ writings =
     ∷ ("set a=\"x`\"y\" b=x`\"``y c=\"`z\"", some "set a=\"x`\"y\" b=\"x`\"``y\" c=\"``z\"")
     ∷ ("set a=(b) b=(\"\",c,\"d e\",f`,g)", some "set a=(b) b=(\"\",c,\"d e\",\"f,g\")")
     ∷ ("help -h Name set", some "help -help Name set")
-    ∷ ("Show", none)
+    ∷ ("SHOW -LEVEL aLL -D ALL,Name=(All,\"B\") /System1 Name", some "show -level all -display ALL,Name=(All,B) /System1 Name")
+    ∷ ("HELP -H Show SET", some "help -help Show SET")
+    ∷ ("Shows", none)
     ∷ []

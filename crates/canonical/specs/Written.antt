@@ -13,7 +13,7 @@ use Rattle.terms.specs.declared.Mode.the-variants.{Out, OutGrave, In, InGrave}
 use Rattle.terms.specs.Signs.{Sign, bare, isBare, two, after, signs, raws, stands, meant}
 use Rattle.words.specs.declared.Kind.{Kind}
 use Rattle.words.specs.declared.Kind.the-variants.{Mere, Keep, Level, Place, Entries}
-use Rattle.words.specs.Words.{verbName, optionName, kindOf}
+use Rattle.words.specs.Words.{names, verbName, optionName, kindOf, allName}
 use Rattle.reading.specs.declared.Shown.{Shown}
 use Rattle.reading.specs.declared.Shown.the-variants as shown
 use Rattle.reading.specs.Command.{Item}
@@ -94,10 +94,14 @@ slashed s = map slash s
 
 -- ---- a term
 
+-- a level: `all` in lower case, a number as it is
+unfoldable pub levelIn : List ℕ → List ℕ
+levelIn s = cond (names allName s) allName s
+
 abbrev pub argumentIn : Kind → List ℕ → List ℕ
 argumentIn Mere s = s
 argumentIn Keep s = s
-argumentIn Level s = s
+argumentIn Level s = levelIn s
 argumentIn Place s = placeIn s
 argumentIn Entries s = textsIn s
 

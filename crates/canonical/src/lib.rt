@@ -18,7 +18,7 @@ ghost use Rattle.reading.specs.Reading.{readingOf};
 ghost use Rattle.reading.specs.Cursor.{left, firstCursor};
 ghost use Rattle.reading.specs.Shown.{verdictIn};
 ghost use Rattle.canonical.specs.Canonical.{quotes, isPlain, writeText, writingAnswer, writingRoom};
-ghost use Rattle.canonical.specs.Written.{graves, graved, gravedAll, textWritten, textsIn, isParting, textLen, leadsDash, dashGrave, placeIn, slash, slashed, argumentIn, written, gap, writtenIn, writtenFrom};
+ghost use Rattle.canonical.specs.Written.{graves, graved, gravedAll, textWritten, textsIn, isParting, textLen, leadsDash, dashGrave, placeIn, slash, slashed, levelIn, argumentIn, written, gap, writtenIn, writtenFrom};
 
 // Every writer tells where its text ends. What would stand past the room's end is not written, but counted.
 
@@ -234,6 +234,17 @@ fn put_slashed(out: &mut [u8], at: usize, s: &[u8]) -> usize
     w
 }
 
+// A level: `all` in lower case, a number as it is.
+fn put_level(out: &mut [u8], at: usize, s: &[u8]) -> usize
+    requires { ⌜ at + 4 * length (now s) ≤ 65536 ⌝ }
+    ensures { λ r. ⌜ (r ≡ at + length (levelIn (now (s .entry)))) × (now (out .exit) ≡ sets (now (out .entry)) at (levelIn (now (s .entry)))) × (r ≤ at + 4 * length (now (s .entry))) ⌝ }
+{
+    if words::is_all(s) {
+        return put_raw(out, at, b"all");
+    }
+    put_raw(out, at, s)
+}
+
 // An option's argument.
 fn put_argument(out: &mut [u8], at: usize, kind: Kind, s: &[u8]) -> usize
     requires { ⌜ (length (now s) ≤ 1024) × (at + 4 * length (now s) ≤ 65536) ⌝ }
@@ -242,7 +253,7 @@ fn put_argument(out: &mut [u8], at: usize, kind: Kind, s: &[u8]) -> usize
     match kind {
         Kind::Mere => put_raw(out, at, s),
         Kind::Keep => put_raw(out, at, s),
-        Kind::Level => put_raw(out, at, s),
+        Kind::Level => put_level(out, at, s),
         Kind::Place => put_place(out, at, s),
         Kind::Entries => put_texts(out, at, s),
     }

@@ -10,7 +10,7 @@ use Rattle.text.specs.Lists.{allOf, anyOf, upTo, past, runLen, parts, every}
 use Rattle.text.specs.Decimal.{valueFrom, isDecimal}
 use Rattle.terms.specs.declared.Mode.the-variants.{Out}
 use Rattle.terms.specs.Signs.{twelve, two, after, gives, signs, raws, stands}
-use Rattle.words.specs.Words.{names, allName, sessionName}
+use Rattle.words.specs.Words.{lower, lowered, names, allName, sessionName}
 use Rattle.forms.specs.declared.Shape.{Shape}
 use Rattle.forms.specs.declared.Shape.the-variants as shape
 use Rattle.forms.specs.declared.Where.{Where}
@@ -41,8 +41,9 @@ judged =
     ∷ ("4294967296", false, false, false, true, true, false)
     ∷ ("all", true, false, true, true, true, true)
     ∷ ("al", true, false, false, true, true, true)
-    ∷ ("ALL", true, false, false, true, true, true)
-    ∷ ("\"all\"", false, false, false, false, true, false)
+    ∷ ("ALL", true, false, true, true, true, true)
+    ∷ ("AL", true, false, false, true, true, true)
+    ∷ ("\"ALL\"", false, false, false, false, true, false)
     ∷ ("a`\"b", false, false, false, true, true, false)
     ∷ ("\"a\"b", false, false, false, false, false, false)
     ∷ ("(a)", false, false, false, true, true, false)
@@ -59,7 +60,7 @@ judged =
     ∷ []
 
 pub texts-judged : map (λ (e : Judged). judges (e .0) (bytes (e .0))) judged ≡ judged
-unfolding bytes oneOf sameBytes isWord allOf anyOf upTo past runLen parts every valueFrom isDecimal twelve two after gives signs raws stands names allName isName isKeep isLevel isPlace isPlainSign endsQuote isText itemsIn isList listOf textOf valueOf entryOf entryParts entriesOf isValueIn areEntriesIn
+unfolding bytes oneOf sameBytes isWord allOf anyOf upTo past runLen parts every valueFrom isDecimal twelve two after gives signs raws stands names lowered lower allName isName isKeep isLevel isPlace isPlainSign endsQuote isText itemsIn isList listOf textOf valueOf entryOf entryParts entriesOf isValueIn areEntriesIn
 texts-judged = refl
 
 -- a text; the property that it is, the help topic that it is, how many bytes its first item of display or output has

@@ -18,7 +18,7 @@ use Rattle.words.specs.declared.Known.the-variants.{Is, Unknown}
 use Rattle.words.specs.declared.Kind.{Kind}
 use Rattle.words.specs.declared.Kind.the-variants.{Mere, Keep, Level, Place, Entries}
 use Rattle.words.specs.Tables.{known}
-use Rattle.words.specs.Words.{names, find, longNames, shortNames, verbOf, optionOf, kindOf}
+use Rattle.words.specs.Words.{lower, lowered, names, find, longNames, shortNames, verbOf, optionOf, kindOf}
 use Rattle.forms.specs.declared.Where.{Where}
 use Rattle.forms.specs.declared.Where.the-variants as where′
 use Rattle.forms.specs.Forms.{starts, Entry, isKeep, isLevel, isPlace, entriesOf, Property, propertyOf, topicOf}
@@ -78,7 +78,7 @@ option-cite seen t k e =
 
 -- no name is empty
 pub option-empty : (seen : List Bool) (t : List ℕ) → length t ≡ 0 → Refuses 7 ≡ decidedOf (decideOption seen (signs Out t))
-unfolding decideOption signs raws optionOf find longNames shortNames names bytes sameBytes
+unfolding decideOption signs raws optionOf find longNames shortNames names lowered lower bytes sameBytes
 option-empty seen [] e = refl
 option-empty seen (b ∷ t) e = absurd (omega arith)
 

@@ -13,7 +13,7 @@ use Rattle.text.specs.Decimal.{valueFrom, isDecimal}
 use Rattle.terms.specs.Signs.{twelve, two, after, gives, signs, raws, stands}
 use Rattle.terms.specs.Terms.{termsFrom, termsOf}
 use Rattle.terms.specs.Rows.{longFlaw, oddFlaw, endMode, openedAt, openFlaw, manyFrom, manyFlaw, lexicalOf}
-use Rattle.words.specs.Words.{verbNames, longNames, shortNames, names, find, verbOf, optionOf, kinds, kindOf, allName, sessionName}
+use Rattle.words.specs.Words.{verbNames, longNames, shortNames, lower, lowered, names, find, verbOf, optionOf, kinds, kindOf, allName, sessionName}
 use Rattle.forms.specs.Forms.{isName, isKeep, isLevel, isPlace, isPlainSign, endsQuote, isText, itemsIn, isList, listOf, textOf, valueOf, entryOf, entryParts, entriesOf, saidOf, propertyOf, topicOf}
 use Rattle.forms.specs.Targets.{tagLen, isNumbered, isStarred, isSegment, areSegments, segmentsOf, pathOf, targetOf}
 use Rattle.reading.specs.Reading.{decideVerb, decideOption, decideArgument, decideTarget, decideProperty, decideAfter, decide, walkTerms, readingOf}
@@ -24,7 +24,7 @@ use Rattle.reading.specs.Lines.{lines}
 
 -- of each line with its answer: the line's records are that answer
 pub lines-answers : map (λ (l : String × List ℕ). listedIn (readingOf (bytes (l .0)))) lines ≡ map (λ (l : String × List ℕ). l .1) lines
-unfolding lines bytes oneOf sameBytes isWord allOf anyOf upTo past runLen parts walk every valueFrom isDecimal twelve two after gives signs raws stands termsFrom termsOf longFlaw oddFlaw endMode openedAt openFlaw manyFrom manyFlaw lexicalOf verbNames longNames shortNames names find verbOf optionOf kinds kindOf allName sessionName isName isKeep isLevel isPlace isPlainSign endsQuote isText itemsIn isList listOf textOf valueOf entryOf entryParts entriesOf saidOf propertyOf topicOf tagLen isNumbered isStarred isSegment areSegments segmentsOf pathOf targetOf decideVerb decideOption decideArgument decideTarget decideProperty decideAfter decide walkTerms readingOf recordsOf
+unfolding lines bytes oneOf sameBytes isWord allOf anyOf upTo past runLen parts walk every valueFrom isDecimal twelve two after gives signs raws stands termsFrom termsOf longFlaw oddFlaw endMode openedAt openFlaw manyFrom manyFlaw lexicalOf verbNames longNames shortNames names lowered lower find verbOf optionOf kinds kindOf allName sessionName isName isKeep isLevel isPlace isPlainSign endsQuote isText itemsIn isList listOf textOf valueOf entryOf entryParts entriesOf saidOf propertyOf topicOf tagLen isNumbered isStarred isSegment areSegments segmentsOf pathOf targetOf decideVerb decideOption decideArgument decideTarget decideProperty decideAfter decide walkTerms readingOf recordsOf
 lines-answers = refl
 
 -- before a line's first term nothing is passed, seen or counted
@@ -33,12 +33,12 @@ first-cursor = (refl, refl, refl, refl)
 
 -- where the target of a line stands
 pub target-there : targetIn (readingOf (bytes "show /system1/cpu4")) ≡ span 5 13
-unfolding targetSpan bytes oneOf sameBytes isWord allOf anyOf upTo past runLen parts walk every valueFrom isDecimal twelve two after gives signs raws stands termsFrom termsOf longFlaw oddFlaw endMode openedAt openFlaw manyFrom manyFlaw lexicalOf verbNames longNames shortNames names find verbOf optionOf kinds kindOf allName sessionName isName isKeep isLevel isPlace isPlainSign endsQuote isText itemsIn isList listOf textOf valueOf entryOf entryParts entriesOf saidOf propertyOf topicOf tagLen isNumbered isStarred isSegment areSegments segmentsOf pathOf targetOf decideVerb decideOption decideArgument decideTarget decideProperty decideAfter decide walkTerms readingOf
+unfolding targetSpan bytes oneOf sameBytes isWord allOf anyOf upTo past runLen parts walk every valueFrom isDecimal twelve two after gives signs raws stands termsFrom termsOf longFlaw oddFlaw endMode openedAt openFlaw manyFrom manyFlaw lexicalOf verbNames longNames shortNames names lowered lower find verbOf optionOf kinds kindOf allName sessionName isName isKeep isLevel isPlace isPlainSign endsQuote isText itemsIn isList listOf textOf valueOf entryOf entryParts entriesOf saidOf propertyOf topicOf tagLen isNumbered isStarred isSegment areSegments segmentsOf pathOf targetOf decideVerb decideOption decideArgument decideTarget decideProperty decideAfter decide walkTerms readingOf
 target-there = refl
 
 -- a line without a target, and lines that are refused at the target and after it, give no part
 pub no-target : (targetPart (bytes "show") ≡ []) × (targetPart (bytes "cd /system1/") ≡ []) × (targetPart (bytes "reset /system1 -f") ≡ [])
-unfolding targetPart targetSpan bytes oneOf sameBytes isWord allOf anyOf upTo past runLen parts walk every valueFrom isDecimal twelve two after gives signs raws stands termsFrom termsOf longFlaw oddFlaw endMode openedAt openFlaw manyFrom manyFlaw lexicalOf verbNames longNames shortNames names find verbOf optionOf kinds kindOf allName sessionName isName isKeep isLevel isPlace isPlainSign endsQuote isText itemsIn isList listOf textOf valueOf entryOf entryParts entriesOf saidOf propertyOf topicOf tagLen isNumbered isStarred isSegment areSegments segmentsOf pathOf targetOf decideVerb decideOption decideArgument decideTarget decideProperty decideAfter decide walkTerms readingOf
+unfolding targetPart targetSpan bytes oneOf sameBytes isWord allOf anyOf upTo past runLen parts walk every valueFrom isDecimal twelve two after gives signs raws stands termsFrom termsOf longFlaw oddFlaw endMode openedAt openFlaw manyFrom manyFlaw lexicalOf verbNames longNames shortNames names lowered lower find verbOf optionOf kinds kindOf allName sessionName isName isKeep isLevel isPlace isPlainSign endsQuote isText itemsIn isList listOf textOf valueOf entryOf entryParts entriesOf saidOf propertyOf topicOf tagLen isNumbered isStarred isSegment areSegments segmentsOf pathOf targetOf decideVerb decideOption decideArgument decideTarget decideProperty decideAfter decide walkTerms readingOf
 no-target = (refl, refl, refl)
 
 -- the records that a lister makes, in room of one byte too few and of the size

@@ -13,7 +13,7 @@ use Rattle.text.proofs.Options.{none-some, some-from, given-from}
 use Rattle.terms.specs.Signs.{Sign, raws, stands}
 use Rattle.words.specs.declared.Kind.{Kind}
 use Rattle.words.specs.declared.Kind.the-variants.{Mere, Keep, Level, Place, Entries}
-use Rattle.words.specs.Words.{verbOf, optionOf, kindOf}
+use Rattle.words.specs.Words.{lowered, verbOf, optionOf, kindOf}
 use Rattle.forms.specs.Forms.{starts, hasEq, isKeep, isLevel, isPlace, Entry, entriesOf, Property, propertyOf, topicOf}
 use Rattle.forms.specs.Targets.{Target, targetOf}
 use Rattle.reading.specs.declared.Phase.{Phase}
@@ -77,12 +77,12 @@ module _ (P : Phase → Item → Type 0) (help : Bool) (seen : List Bool) (count
 -- and what an argument was taken from, by its option's kind
 pub argument-from : (P : Kind → Argument → Type 0) (t : List Sign)
     → (isKeep (raws t) ≡ true → P Keep (numeral (raws t)))
-    → (isLevel (raws t) ≡ true → P Level (numeral (raws t)))
+    → (isLevel (raws t) ≡ true → P Level (numeral (lowered (raws t))))
     → (isPlace t ≡ true → P Place (text (stands t)))
     → ((es : List Entry) → entriesOf t ≡ some es → P Entries (items es))
     → (k : Kind) (a : Argument) → argumentBy k t ≡ some a → P k a
 argument-from P t keep level place entries Mere a e = none-some a e
 argument-from P t keep level place entries Keep a e = some-from (P Keep) (isKeep (raws t)) (numeral (raws t)) keep a e
-argument-from P t keep level place entries Level a e = some-from (P Level) (isLevel (raws t)) (numeral (raws t)) level a e
+argument-from P t keep level place entries Level a e = some-from (P Level) (isLevel (raws t)) (numeral (lowered (raws t))) level a e
 argument-from P t keep level place entries Place a e = some-from (P Place) (isPlace t) (text (stands t)) place a e
 argument-from P t keep level place entries Entries a e = given-from (P Entries) (entriesOf t) items entries a e

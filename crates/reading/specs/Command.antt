@@ -8,14 +8,15 @@ use Rattle.text.specs.Lists.{given}
 use Rattle.terms.specs.Signs.{Sign, raws, stands}
 use Rattle.words.specs.declared.Kind.{Kind}
 use Rattle.words.specs.declared.Kind.the-variants.{Mere, Keep, Level, Place, Entries}
+use Rattle.words.specs.Words.{lowered}
 use Rattle.forms.specs.Forms.{Entry, Property, isKeep, isLevel, isPlace, entriesOf}
 use Rattle.forms.specs.Targets.{Target}
 use Rattle.forms.specs.Answers.{operatorOf}
 use Rattle.reading.specs.declared.Shown.{Shown}
 use Rattle.reading.specs.declared.Shown.the-variants as shown
 
--- an option's argument: a number is told by its digits, which have no leading zero, and `all` by itself; a source or destination by the bytes that
--- it stands for; display and output by their items
+-- an option's argument: a number is told by its digits, which have no leading zero, and `all`, in whichever case, by itself in lower case; a source or
+-- destination by the bytes that it stands for; display and output by their items
 pub data Argument : Type 0 where
   numeral : List ℕ → Argument
   text : List ℕ → Argument
@@ -24,7 +25,7 @@ pub data Argument : Type 0 where
 abbrev pub argumentBy : Kind → List Sign → Option Argument
 argumentBy Mere t = none
 argumentBy Keep t = cond (isKeep (raws t)) (some (numeral (raws t))) none
-argumentBy Level t = cond (isLevel (raws t)) (some (numeral (raws t))) none
+argumentBy Level t = cond (isLevel (raws t)) (some (numeral (lowered (raws t)))) none
 argumentBy Place t = cond (isPlace t) (some (text (stands t))) none
 argumentBy Entries t = given (entriesOf t) (λ es. some (items es))
 

@@ -1,3 +1,4 @@
+pub mod Folding
 pub mod WordLaws
 pub mod RowLaws
 pub mod Examples

@@ -18,9 +18,10 @@ use Rattle.words.specs.declared.Kind.{Kind}
 use Rattle.words.specs.declared.Kind.the-variants.{Mere, Keep, Level, Place, Entries}
 use Rattle.words.specs.declared.Known.the-variants.{Is, Unknown}
 use Rattle.words.specs.Tables.{known}
-use Rattle.words.specs.Words.{longNames, shortNames, names, find, or, verbOf, optionOf, kinds, kindOf, verbName, optionName, shortName, bodies, bodyOf, lenWith, recordLen}
+use Rattle.words.specs.Words.{longNames, shortNames, lower, lowered, names, find, or, verbOf, optionOf, kinds, kindOf, verbName, optionName, shortName, bodies, bodyOf, lenWith, recordLen}
 use Rattle.words.specs.Rows.{padded, verbRow, optionRow, kindNumber, kindBytes, kindAt, rowName, rowNames, candidateOf, bodyBytes, bodyAt}
-use Rattle.words.proofs.WordLaws.{verb-again, verb-only-name, verb-short, verb-out, option-shape, option-short, option-out, option-only-name, short-out, options-long, options-short, kind-out, below, below-at}
+use Rattle.words.proofs.Folding.{lowered-length, lowered-nil, lowered-at}
+use Rattle.words.proofs.WordLaws.{verb-by-name, verb-only-name, verb-short, verb-out, option-shape, option-short, option-out, option-only-name, short-out, options-long, options-short, kind-out, below, below-at}
 
 -- ---- the tables
 
@@ -90,9 +91,10 @@ option-row-long n a b = (some-bytes (optionName n) (option-shape n a b .0), opti
 pub row-length : (row : List ℕ) → getD row 0 0 < length row → getD row 0 0 ≡ length (rowName row)
 row-length row h = sym (length-take-le (getD row 0 0) (drop 1 row) (omega (arith, length-drop 1 row)))
 
--- the two forms of the verbs joined: the strings recognise a text as a number exactly where it is the name in that number's row
-pub verb-forms : (t : List ℕ) (k : ℕ) → 1 ≤ k → k ≤ 13 → (verbOf t ≡ some k → t ≡ rowName (verbRow k)) × (t ≡ rowName (verbRow k) → verbOf t ≡ some k)
-verb-forms t k a b = let e = verb-row-name k in (λ f. verb-only-name t k f .2 ∙ sym e, λ f. ap verbOf (f ∙ e) ∙ verb-again k a b)
+-- the two forms of the verbs joined: the strings recognise a text as a number exactly where it is in lower case the name in that number's row
+pub verb-forms : (t : List ℕ) (k : ℕ) → isNil t ≡ false
+    → (verbOf t ≡ some k → lowered t ≡ rowName (verbRow k)) × (lowered t ≡ rowName (verbRow k) → verbOf t ≡ some k)
+verb-forms t k h = let e = verb-row-name k in (λ f. verb-only-name t k f .2 ∙ sym e, λ f. verb-by-name t k h (f ∙ e))
 
 -- ---- kinds of argument
 
@@ -121,21 +123,21 @@ kind-rest (suc (suc (suc (suc (suc n))))) a b c d = refl
 -- ---- a search among the options' rows
 
 -- what a row's test comes to, for the text of one byte and for the others
-pub row-short : (row t : List ℕ) → length t ≡ 1 → (getD row 12 0 ≡ 0 → ⊥) → rowNames row t ≡ eqb (getD t 0 0) (getD row 12 0)
-unfolding rowNames names sameBytes
+pub row-short : (row t : List ℕ) → length t ≡ 1 → (getD row 12 0 ≡ 0 → ⊥) → rowNames row t ≡ eqb (lower (getD t 0 0)) (getD row 12 0)
+unfolding rowNames names lowered sameBytes
 row-short row [] e h = absurd (omega arith)
-row-short row (b ∷ []) e h = simp (ne-eqb (getD row 12 0) 0 h) (and-true (eqb b (getD row 12 0)))
+row-short row (b ∷ []) e h = simp (ne-eqb (getD row 12 0) 0 h) (and-true (eqb (lower b) (getD row 12 0)))
 row-short row (b ∷ c ∷ t) e h = absurd (omega arith)
 
 pub row-no-short : (row t : List ℕ) → length t ≡ 1 → getD row 12 0 ≡ 0 → rowNames row t ≡ false
 unfolding rowNames names
 row-no-short row t e h = simp (eq-eqb (length t) 1 e, eq-eqb (getD row 12 0) 0 h)
 
-pub row-long : (row t : List ℕ) → (length t ≡ 1 → ⊥) → 0 < getD row 0 0 → 1 < length row → rowNames row t ≡ sameBytes t (rowName row)
+pub row-long : (row t : List ℕ) → (length t ≡ 1 → ⊥) → 0 < getD row 0 0 → 1 < length row → rowNames row t ≡ sameBytes (lowered t) (rowName row)
 unfolding rowNames names
 row-long row t e p q = rw (ne-eqb (length t) 1 e) (go (getD row 0 0) p row q)
   where
-    go : (n : ℕ) → 0 < n → (row : List ℕ) → 1 < length row → not (isNil (take n (drop 1 row))) && sameBytes t (take n (drop 1 row)) ≡ sameBytes t (take n (drop 1 row))
+    go : (n : ℕ) → 0 < n → (row : List ℕ) → 1 < length row → not (isNil (take n (drop 1 row))) && sameBytes (lowered t) (take n (drop 1 row)) ≡ sameBytes (lowered t) (take n (drop 1 row))
     go zero p row q = absurd (omega arith)
     go (suc n) p [] q = absurd (omega arith)
     go (suc n) p (x ∷ []) q = absurd (omega arith)
@@ -213,12 +215,14 @@ short-candidate (suc k) a b h =
     (below-at (λ k. isNil (shortName (suc k)) || eqb (candidateOf (getD (shortName (suc k)) 0 0) (length (shortName (suc k)))) (suc k)) 12 short-candidates k (omega arith))
     (λ e. no-case (sym e ∙ h)) (λ e. eqb-true (candidateOf (getD (shortName (suc k)) 0 0) (length (shortName (suc k)))) (suc k) e)
 
-candidate-is : (t : List ℕ) (k : ℕ) → optionOf t ≡ some k → (1 ≤ k) × (candidateOf (getD t 0 0) (length t) ≡ k)
+candidate-is : (t : List ℕ) (k : ℕ) → optionOf t ≡ some k → (1 ≤ k) × (candidateOf (lower (getD t 0 0)) (length t) ≡ k)
 candidate-is t k e =
-    let r = option-only-name t k e in (
+    let r = option-only-name t k e in
+    let p : candidateOf (lower (getD t 0 0)) (length t) ≡ candidateOf (getD (lowered t) 0 0) (length (lowered t)) = rw (lowered-at t 0, lowered-length t) in (
       r .0,
-      ⊎-elim (λ q. ap (λ s. candidateOf (getD s 0 0) (length s)) q ∙ long-candidate k (r .0) (r .1))
-          (λ q. ap (λ s. candidateOf (getD s 0 0) (length s)) q ∙ short-candidate k (r .0) (r .1) (sym (ap isNil q) ∙ r .3)) (r .2),
+      p
+      ∙ ⊎-elim (λ q. ap (λ s. candidateOf (getD s 0 0) (length s)) q ∙ long-candidate k (r .0) (r .1))
+          (λ q. ap (λ s. candidateOf (getD s 0 0) (length s)) q ∙ short-candidate k (r .0) (r .1) (sym (ap isNil q) ∙ lowered-nil t ∙ r .3)) (r .2),
     )
 
 -- it is an option's number, or 0
@@ -248,15 +252,15 @@ module _ (t : List ℕ) where
   pub empty-none : length t ≡ 0 → Unknown ≡ known (optionOf t)
   empty-none h = no-option (optionOf t) refl (λ k e. omega (arith, h, some-bytes t (option-only-name t k e .3)))
 
-  pub candidate-none : candidateOf (getD t 0 0) (length t) ≡ 0 → Unknown ≡ known (optionOf t)
+  pub candidate-none : candidateOf (lower (getD t 0 0)) (length t) ≡ 0 → Unknown ≡ known (optionOf t)
   candidate-none h = no-option (optionOf t) refl (λ k e. let r = candidate-is t k e in omega (arith, h, r .0, r .1))
 
-  module _ (n : ℕ) (is : n ≡ candidateOf (getD t 0 0) (length t)) where
+  module _ (n : ℕ) (is : n ≡ candidateOf (lower (getD t 0 0)) (length t)) where
     pub row-hit : (n ≡ 0 → ⊥) → rowNames (optionRow n) t ≡ true → Is n ≡ known (optionOf t)
     row-hit h e = go (optionOf t) refl
       where
         go : (o : Option ℕ) → optionOf t ≡ o → Is n ≡ known (optionOf t)
-        go none q = absurd (named-found 12 1 n t (omega arith) (omega (arith, candidate-most (getD t 0 0) (length t))) e (find-options t ∙ q))
+        go none q = absurd (named-found 12 1 n t (omega arith) (omega (arith, candidate-most (lower (getD t 0 0)) (length t))) e (find-options t ∙ q))
         go (some k) q = ap known (ap some (is ∙ candidate-is t k q .1) ∙ sym q)
 
     pub row-miss : rowNames (optionRow n) t ≡ false → Unknown ≡ known (optionOf t)

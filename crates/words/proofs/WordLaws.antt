@@ -1,4 +1,4 @@
--- Verbs and options by name and by number: a number's name is recognised as that number, and nothing else is. Assumes nothing.
+-- Verbs and options by name and by number: a number's name, its letters in either case, is recognised as that number, and nothing else is. Assumes nothing.
 use Prim.Native.Nat.{ℕ, zero, suc, _+_, _-_, _<_, _≤_}
 use mathlib.Core.Path.{_≡_, refl, sym, ap, _∙_}
 use mathlib.Core.List.{List, [], _∷_}
@@ -17,16 +17,28 @@ use Rattle.text.proofs.SameTexts.{same-eq, same-refl}
 use Rattle.text.proofs.Scans.{same-length, all-at}
 use Rattle.words.specs.declared.Kind.{Kind}
 use Rattle.words.specs.declared.Kind.the-variants.{Mere, Keep, Level, Place, Entries}
-use Rattle.words.specs.Words.{verbNames, longNames, shortNames, names, find, or, verbOf, optionOf, verbName, optionName, shortName, kinds, kindOf}
+use Rattle.words.specs.Words.{verbNames, longNames, shortNames, lower, lowered, names, find, or, verbOf, optionOf, verbName, optionName, shortName, kinds, kindOf}
 use Rattle.words.specs.Rows.{findOf}
 use Rattle.words.specs.Names.{isLower, takesArgument, isMere}
+use Rattle.words.proofs.Folding.{lowered-length, lowered-nil, lowered-same}
 
 -- ---- a search among names
 
 -- a name of another length names nothing here
 pub names-length : (name s : List ℕ) → (length s ≡ length name → ⊥) → names name s ≡ false
 unfolding names
-names-length name s h = ap (λ (b : Bool). not (isNil name) && b) (same-length s name h) ∙ and-false (not (isNil name))
+names-length name s h =
+    ap (λ (b : Bool). not (isNil name) && b) (same-length (lowered s) name (λ e. h (sym (lowered-length s) ∙ e))) ∙ and-false (not (isNil name))
+
+-- two texts that differ in the case of letters alone are named alike
+pub names-either : (n s r : List ℕ) → lowered s ≡ lowered r → names n s ≡ names n r
+unfolding names
+names-either n s r e = ap (λ (t : List ℕ). not (isNil n) && sameBytes t n) e
+
+pub find-either : (k : ℕ) (ns : List (List ℕ)) (s r : List ℕ) → lowered s ≡ lowered r → find k ns s ≡ find k ns r
+unfolding find
+find-either k [] s r e = refl
+find-either k (n ∷ ns) s r e = rw (names-either n s r e, find-either (suc k) ns s r e)
 
 -- a text is one of the names of its own length or none
 pub find-of : (n k : ℕ) (ns : List (List ℕ)) (s : List ℕ) → length s ≡ n → find k ns s ≡ findOf n k ns s
@@ -46,43 +58,44 @@ no-verb s a b c d e f =
     let out : (n : ℕ) → (length s ≡ n → ⊥) → eqb n (length s) ≡ false = λ n h. ne-eqb n (length s) (λ p. h (sym p)) in
     find-of (length s) 1 verbNames s refl ∙ simp (out 2 a, out 3 b, out 4 c, out 5 d, out 6 e, out 7 f)
 
--- a name names itself
-pub names-self : (n : List ℕ) → isNil n ≡ false → names n n ≡ true
+-- a name names a text that is the name in lower case
+names-lowered : (n s : List ℕ) → isNil n ≡ false → lowered s ≡ n → names n s ≡ true
 unfolding names
-names-self n h = and-in (not (isNil n)) (sameBytes n n) (neg-in (isNil n) h) (same-refl n)
+names-lowered n s h e = and-in (not (isNil n)) (sameBytes (lowered s) n) (neg-in (isNil n) h) (ap (λ (t : List ℕ). sameBytes t n) e ∙ same-refl n)
 
--- no name names a later one
+-- no name but an empty one is a later one
 distinct : List (List ℕ) → Bool
 distinct [] = true
-distinct (n ∷ ns) = allOf (λ m. not (names n m)) ns && distinct ns
+distinct (n ∷ ns) = allOf (λ m. not (not (isNil n) && sameBytes m n)) ns && distinct ns
 
 there : (ns : List (List ℕ)) (i : ℕ) → isNil (getD ns i []) ≡ false → i < length ns
 there [] i h = no-case h
 there (n ∷ ns) zero h = omega arith
 there (n ∷ ns) (suc i) h = let t = there ns i h in omega arith
 
--- where no name names another, the name at a place is found there
-find-again : (k : ℕ) (ns : List (List ℕ)) → distinct ns ≡ true → (i : ℕ) → isNil (getD ns i []) ≡ false → find k ns (getD ns i []) ≡ some (k + i)
-unfolding find distinct
-find-again k [] d i h = no-case h
-find-again k (n ∷ ns) d zero h = let e : k + 0 ≡ k = omega arith in rw (names-self n h) (ap some (sym e))
-find-again k (n ∷ ns) d (suc i) h =
+-- where no two names are the same, a text that is the name at a place in lower case is found there
+find-again : (k : ℕ) (ns : List (List ℕ)) (s : List ℕ) → distinct ns ≡ true → (i : ℕ) → isNil (getD ns i []) ≡ false → lowered s ≡ getD ns i [] → find k ns s ≡ some (k + i)
+unfolding find distinct names
+find-again k [] s d i h q = no-case h
+find-again k (n ∷ ns) s d zero h q = let e : k + 0 ≡ k = omega arith in rw (names-lowered n s h q) (ap some (sym e))
+find-again k (n ∷ ns) s d (suc i) h q =
     let e : k + suc i ≡ suc k + i = omega arith in
-    let o = not-true (names n (getD ns i [])) (all-at (λ m. not (names n m)) ns [] (and-l (allOf (λ m. not (names n m)) ns) (distinct ns) d) i (there ns i h)) in
-    rw o (find-again (suc k) ns (and-r (allOf (λ m. not (names n m)) ns) (distinct ns) d) i h ∙ ap some (sym e))
+    let f : List ℕ → Bool = λ m. not (isNil n) && sameBytes m n in
+    let o = not-true (f (getD ns i [])) (all-at (λ m. not (f m)) ns [] (and-l (allOf (λ m. not (f m)) ns) (distinct ns) d) i (there ns i h)) in
+    rw (ap f q ∙ o) (find-again (suc k) ns s (and-r (allOf (λ m. not (f m)) ns) (distinct ns) d) i h q ∙ ap some (sym e))
 
--- what is found is the name at its place, which is not empty
+-- what is found is in lower case the name at its place, which is not empty
 find-name : (k : ℕ) (ns : List (List ℕ)) (s : List ℕ) (j : ℕ) → find k ns s ≡ some j
-    → (k ≤ j) × (j < k + length ns) × (s ≡ getD ns (j - k) []) × (isNil s ≡ false)
+    → (k ≤ j) × (j < k + length ns) × (lowered s ≡ getD ns (j - k) []) × (isNil s ≡ false)
 unfolding find names
 find-name k [] s j e = none-some j e
 find-name k (n ∷ ns) s j e =
-    either (not (isNil n) && sameBytes s n)
+    either (not (isNil n) && sameBytes (lowered s) n)
     (λ t.
     let q = Option·some-injective k j (rw t at e) in
     let z : j - k ≡ 0 = omega arith in
-    let p = same-eq s n (and-r (not (isNil n)) (sameBytes s n) t) in
-    (omega arith, omega arith, rw z p, ap isNil p ∙ not-true (isNil n) (and-l (not (isNil n)) (sameBytes s n) t)))
+    let p = same-eq (lowered s) n (and-r (not (isNil n)) (sameBytes (lowered s) n) t) in
+    (omega arith, omega arith, rw z p, sym (lowered-nil s) ∙ ap isNil p ∙ not-true (isNil n) (and-l (not (isNil n)) (sameBytes (lowered s) n) t)))
     (λ t.
     let r = find-name (suc k) ns s j (rw t at e) in
     let z : j - k ≡ suc (j - suc k) = omega (arith, r .0) in
@@ -109,7 +122,7 @@ unfolding allOf shape isWord verbNames bytes
 verbs-shape = refl
 
 verbs-distinct : distinct verbNames ≡ true
-unfolding allOf distinct names sameBytes verbNames bytes
+unfolding allOf distinct sameBytes verbNames bytes
 verbs-distinct = refl
 
 verbs-many : length verbNames ≡ 13
@@ -121,7 +134,7 @@ unfolding allOf shape isWord longNames bytes
 longs-shape = refl
 
 longs-distinct : distinct longNames ≡ true
-unfolding allOf distinct names sameBytes longNames bytes
+unfolding allOf distinct sameBytes longNames bytes
 longs-distinct = refl
 
 longs-many : length longNames ≡ 12
@@ -129,7 +142,7 @@ unfolding longNames
 longs-many = refl
 
 shorts-distinct : distinct shortNames ≡ true
-unfolding allOf distinct names sameBytes shortNames bytes
+unfolding allOf distinct sameBytes shortNames bytes
 shorts-distinct = refl
 
 shorts-many : length shortNames ≡ 12
@@ -143,12 +156,13 @@ module _ (ns : List (List ℕ)) where
   number-passes f e zero a b = absurd (omega arith)
   number-passes f e (suc i) a b = all-at f ns [] e i (omega arith)
 
-  -- the name at a number is found at it, and what is found is the name at its number
-  number-again : distinct ns ≡ true → (k : ℕ) → isNil (getD ([] ∷ ns) k []) ≡ false → find 1 ns (getD ([] ∷ ns) k []) ≡ some k
-  number-again d zero h = no-case h
-  number-again d (suc i) h = let e : 1 + i ≡ suc i = omega arith in find-again 1 ns d i h ∙ ap some e
+  -- what is in lower case the name at a number is found at it, and what is found is that
+  number-again : distinct ns ≡ true → (s : List ℕ) (k : ℕ) → isNil s ≡ false → lowered s ≡ getD ([] ∷ ns) k [] → find 1 ns s ≡ some k
+  number-again d s zero h q = no-case (sym (ap isNil q) ∙ lowered-nil s ∙ h)
+  number-again d s (suc i) h q =
+      let e : 1 + i ≡ suc i = omega arith in find-again 1 ns s d i (sym (ap isNil q) ∙ lowered-nil s ∙ h) q ∙ ap some e
 
-  number-name : (s : List ℕ) (k : ℕ) → find 1 ns s ≡ some k → (1 ≤ k) × (k ≤ length ns) × (s ≡ getD ([] ∷ ns) k []) × (isNil s ≡ false)
+  number-name : (s : List ℕ) (k : ℕ) → find 1 ns s ≡ some k → (1 ≤ k) × (k ≤ length ns) × (lowered s ≡ getD ([] ∷ ns) k []) × (isNil s ≡ false)
   number-name s k e =
       let f = find-name 1 ns s k e in
       let z : suc (k - 1) ≡ k = omega (arith, f .0) in
@@ -177,15 +191,23 @@ pub verb-short : (n : ℕ) → length (verbName n) ≤ 7
 unfolding verbName verbNames bytes allOf
 verb-short n = short-name 7 ([] ∷ verbNames) n refl
 
--- the name at k is recognised as k
-pub verb-again : (k : ℕ) → 1 ≤ k → k ≤ 13 → verbOf (verbName k) ≡ some k
+-- what is in lower case the name of k is recognised as k
+pub verb-by-name : (s : List ℕ) (k : ℕ) → isNil s ≡ false → lowered s ≡ verbName k → verbOf s ≡ some k
 unfolding verbOf verbName
-verb-again k a b = number-again verbNames verbs-distinct k (verb-shape k a b .0)
+verb-by-name s k h e = number-again verbNames verbs-distinct s k h e
+
+pub verb-again : (k : ℕ) → 1 ≤ k → k ≤ 13 → verbOf (verbName k) ≡ some k
+verb-again k a b = let f = verb-shape k a b in verb-by-name (verbName k) k (f .0) (lowered-same (verbName k) (f .1))
 
 -- and nothing else is
-pub verb-only-name : (s : List ℕ) (k : ℕ) → verbOf s ≡ some k → (1 ≤ k) × (k ≤ 13) × (s ≡ verbName k)
+pub verb-only-name : (s : List ℕ) (k : ℕ) → verbOf s ≡ some k → (1 ≤ k) × (k ≤ 13) × (lowered s ≡ verbName k) × (isNil s ≡ false)
 unfolding verbOf verbName
-verb-only-name s k e = let f = number-name verbNames s k e in (f .0, omega (arith, f .1, verbs-many), f .2)
+verb-only-name s k e = let f = number-name verbNames s k e in (f .0, omega (arith, f .1, verbs-many), f .2, f .3)
+
+-- in whichever case
+pub verb-either : (s r : List ℕ) → lowered s ≡ lowered r → verbOf s ≡ verbOf r
+unfolding verbOf
+verb-either s r e = find-either 1 verbNames s r e
 
 -- two numbers have two names
 pub verb-names-differ : (j k : ℕ) → 1 ≤ j → j ≤ 13 → 1 ≤ k → k ≤ 13 → verbName j ≡ verbName k → j ≡ k
@@ -222,10 +244,6 @@ pub options-short : (t : List ℕ) → (length t ≡ 1 → ⊥) → find 1 short
 unfolding allOf shortNames bytes
 options-short t e = none-short 1 shortNames t e refl
 
-pub option-none : optionName 0 ≡ []
-unfolding optionName
-option-none = refl
-
 pub option-out : (n : ℕ) → 12 < n → optionName n ≡ []
 unfolding optionName longNames
 option-out n h = List·getD-eq-default ([] ∷ longNames) [] h
@@ -244,18 +262,6 @@ pub option-short : (n : ℕ) → length (optionName n) ≤ 11
 unfolding optionName longNames bytes allOf
 option-short n = short-name 11 ([] ∷ longNames) n refl
 
--- the long name at k is recognised as k
-pub option-again : (k : ℕ) → 1 ≤ k → k ≤ 12 → optionOf (optionName k) ≡ some k
-unfolding optionOf optionName
-option-again k a b = ap (λ o. or o (find 1 shortNames (optionName k))) (number-again longNames longs-distinct k (option-shape k a b .0))
-
--- numbers with a name are 1 to 12
-option-within : (k : ℕ) → isNil (optionName k) ≡ false → (1 ≤ k) × (k ≤ 12)
-option-within zero h = no-case (sym (ap isNil option-none) ∙ h)
-option-within (suc i) h =
-    either (leb (suc i) 12) (λ t. (omega arith, leb-true (suc i) 12 t))
-    (λ t. no-case (sym (ap isNil (option-out (suc i) (leb-false (suc i) 12 t))) ∙ h))
-
 -- short names have one byte
 shorts-length : allOf (λ n. isNil n || eqb (length n) 1) shortNames ≡ true
 unfolding allOf shortNames bytes
@@ -267,38 +273,48 @@ short-length i h =
     let t = all-at (λ n. isNil n || eqb (length n) 1) shortNames [] shorts-length i (there shortNames i h) in
     or-case (isNil n) (eqb (length n) 1) t (λ e. no-case (sym e ∙ h)) (λ e. eqb-true (length n) 1 e)
 
--- so is the short name at k, where there is one
-pub option-short-again : (k : ℕ) → isNil (shortName k) ≡ false → optionOf (shortName k) ≡ some k
-unfolding optionOf shortName
-option-short-again zero h = no-case h
-option-short-again (suc i) h =
-    ap (λ o. or o (find 1 shortNames (getD shortNames i []))) (options-long (getD shortNames i []) (short-length i h)) ∙ number-again shortNames shorts-distinct (suc i) h
+-- what is in lower case one of the two names of k, and not empty, is recognised as k
+pub option-by-name : (s : List ℕ) (k : ℕ) → isNil s ≡ false → (lowered s ≡ optionName k) ⊎ (lowered s ≡ shortName k) → optionOf s ≡ some k
+unfolding optionOf optionName shortName
+option-by-name s k h = ⊎-elim long (short k)
+  where
+    long : lowered s ≡ optionName k → optionOf s ≡ some k
+    long e = ap (λ o. or o (find 1 shortNames s)) (number-again longNames longs-distinct s k h e)
+
+    short : (k : ℕ) → lowered s ≡ shortName k → optionOf s ≡ some k
+    short zero e = no-case (sym (ap isNil e) ∙ lowered-nil s ∙ h)
+    short (suc i) e =
+        let one = short-length i (sym (ap isNil e) ∙ lowered-nil s ∙ h) in
+        ap (λ o. or o (find 1 shortNames s)) (options-long s (sym (lowered-length s) ∙ ap length e ∙ one)) ∙ number-again shortNames shorts-distinct s (suc i) h e
+
+pub option-again : (k : ℕ) → 1 ≤ k → k ≤ 12 → optionOf (optionName k) ≡ some k
+option-again k a b = let f = option-shape k a b in option-by-name (optionName k) k (f .0) (inl (lowered-same (optionName k) (f .1)))
 
 -- and nothing else is
-pub option-only-name : (s : List ℕ) (k : ℕ) → optionOf s ≡ some k → (1 ≤ k) × (k ≤ 12) × ((s ≡ optionName k) ⊎ (s ≡ shortName k)) × (isNil s ≡ false)
+pub option-only-name : (s : List ℕ) (k : ℕ) → optionOf s ≡ some k
+    → (1 ≤ k) × (k ≤ 12) × ((lowered s ≡ optionName k) ⊎ (lowered s ≡ shortName k)) × (isNil s ≡ false)
 unfolding optionOf
 option-only-name s k e = go (find 1 longNames s) refl e
   where
-    long : find 1 longNames s ≡ some k → (1 ≤ k) × (k ≤ 12) × ((s ≡ optionName k) ⊎ (s ≡ shortName k)) × (isNil s ≡ false)
+    long : find 1 longNames s ≡ some k → (1 ≤ k) × (k ≤ 12) × ((lowered s ≡ optionName k) ⊎ (lowered s ≡ shortName k)) × (isNil s ≡ false)
     long f = let r = number-name longNames s k f in (r .0, omega (arith, r .1, longs-many), inl (unfold optionName in r .2), r .3)
 
-    short : find 1 shortNames s ≡ some k → (1 ≤ k) × (k ≤ 12) × ((s ≡ optionName k) ⊎ (s ≡ shortName k)) × (isNil s ≡ false)
+    short : find 1 shortNames s ≡ some k → (1 ≤ k) × (k ≤ 12) × ((lowered s ≡ optionName k) ⊎ (lowered s ≡ shortName k)) × (isNil s ≡ false)
     short f = let r = number-name shortNames s k f in (r .0, omega (arith, r .1, shorts-many), inr (unfold shortName in r .2), r .3)
 
     go : (o : Option ℕ) → find 1 longNames s ≡ o → or o (find 1 shortNames s) ≡ some k
-        → (1 ≤ k) × (k ≤ 12) × ((s ≡ optionName k) ⊎ (s ≡ shortName k)) × (isNil s ≡ false)
+        → (1 ≤ k) × (k ≤ 12) × ((lowered s ≡ optionName k) ⊎ (lowered s ≡ shortName k)) × (isNil s ≡ false)
     go none q f = short f
     go (some j) q f = long (q ∙ f)
 
--- a text that is one of the two names of k, and not empty, is recognised as k
-pub option-by-name : (s : List ℕ) (k : ℕ) → isNil s ≡ false → (s ≡ optionName k) ⊎ (s ≡ shortName k) → optionOf s ≡ some k
-option-by-name s k h = ⊎-elim (λ e. long e) (λ e. ap optionOf e ∙ option-short-again k (sym (ap isNil e) ∙ h))
-  where
-    long : s ≡ optionName k → optionOf s ≡ some k
-    long e = let w = option-within k (sym (ap isNil e) ∙ h) in ap optionOf e ∙ option-again k (w .0) (w .1)
+-- in whichever case
+pub option-either : (s r : List ℕ) → lowered s ≡ lowered r → optionOf s ≡ optionOf r
+unfolding optionOf
+option-either s r e = rw (find-either 1 longNames s r e, find-either 1 shortNames s r e)
 
 -- no text names two options
-pub option-one : (s : List ℕ) (j k : ℕ) → isNil s ≡ false → (s ≡ optionName j) ⊎ (s ≡ shortName j) → (s ≡ optionName k) ⊎ (s ≡ shortName k) → j ≡ k
+pub option-one : (s : List ℕ) (j k : ℕ) → isNil s ≡ false → (lowered s ≡ optionName j) ⊎ (lowered s ≡ shortName j)
+    → (lowered s ≡ optionName k) ⊎ (lowered s ≡ shortName k) → j ≡ k
 option-one s j k h p q = Option·some-injective j k (sym (option-by-name s j h p) ∙ option-by-name s k h q)
 
 -- ---- arguments

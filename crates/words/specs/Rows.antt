@@ -46,7 +46,7 @@ rowShort row = cond (eqb (getD row 12 0) 0) [] (getD row 12 0 ∷ [])
 unfoldable pub rowNames : List ℕ → List ℕ → Bool
 rowNames row t = cond (eqb (length t) 1) (names (rowShort row) t) (names (rowName row) t)
 
--- the one option that a text can name, by its first byte and, of those with a `d`, by its length; 0 where there is none
+-- the one option that a text can name, by its first byte in lower case and, of those with a `d`, by its length; 0 where there is none
 unfoldable pub candidateOf : ℕ → ℕ → ℕ
 candidateOf x n =
     cond (eqb x 97) 1 (cond (eqb x 100) (cond (eqb n 11) 2 3) (cond (eqb x 101) 4 (cond (eqb x 120) 4 (cond (eqb x 102) 5 (cond (eqb x 104) 6 (cond (eqb x 107) 7

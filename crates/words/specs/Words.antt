@@ -1,9 +1,10 @@
 -- The command, 1 and 2: verbs and options by name and by number; and the kinds of record with the length of their bodies.
 use Prim.Native.Nat.{ℕ, suc, _+_}
-use mathlib.Core.List.{List, [], _∷_}
+use mathlib.Core.List.{List, [], _∷_, map}
 use mathlib.Core.Bool.{Bool, cond, not, _&&_}
 use mathlib.Core.Option.{Option, none, some}
 use lib.ListN.{getD}
+use lib.Dec.{leb}
 use Rattle.text.specs.Bytes.{bytes, sameBytes}
 use Rattle.text.specs.Lists.{isNil}
 use Rattle.words.specs.declared.Kind.{Kind}
@@ -24,9 +25,16 @@ longNames =
 unfoldable pub shortNames : List (List ℕ)
 shortNames = bytes "a" ∷ [] ∷ bytes "d" ∷ bytes "x" ∷ bytes "f" ∷ bytes "h" ∷ bytes "k" ∷ bytes "l" ∷ bytes "o" ∷ [] ∷ bytes "v" ∷ bytes "w" ∷ []
 
--- does this name name that text? Names are raw bytes, compared byte for byte; an empty name names nothing.
+-- a letter A to Z in lower case; every other byte is itself
+unfoldable pub lower : ℕ → ℕ
+lower b = cond (leb 65 b && leb b 90) (b + 32) b
+
+unfoldable pub lowered : List ℕ → List ℕ
+lowered s = map lower s
+
+-- does this name name that text? The text's raw bytes, its letters in either case, are the name, which is in lower case; an empty name names nothing.
 unfoldable pub names : List ℕ → List ℕ → Bool
-names n s = not (isNil n) && sameBytes s n
+names n s = not (isNil n) && sameBytes (lowered s) n
 
 -- the number of a name, the first being k
 unfoldable pub find : ℕ → List (List ℕ) → List ℕ → Option ℕ
@@ -61,7 +69,7 @@ kinds = Mere ∷ Mere ∷ Place ∷ Entries ∷ Mere ∷ Mere ∷ Mere ∷ Keep 
 unfoldable pub kindOf : ℕ → Kind
 kindOf n = getD kinds n Mere
 
--- the two other fixed words: a level's `all`, and the target `SESSION`
+-- the two other fixed words: a level's `all`, which names a text as above, and the target `SESSION`, which is compared byte for byte
 unfoldable pub allName : List ℕ
 allName = bytes "all"
 

@@ -7,7 +7,7 @@ ghost use lib.ListN.{length, getD};
 ghost use lib.Seq.{sets};
 ghost use lib.Dec.{eqb};
 ghost use Rattle.text.specs.Bytes.{sameBytes};
-ghost use Rattle.words.specs.Words.{names, verbNames, verbOf, verbName, optionOf, optionName, kindOf, allName, sessionName, bodyOf, recordLen};
+ghost use Rattle.words.specs.Words.{lower, lowered, names, verbNames, verbOf, verbName, optionOf, optionName, kindOf, allName, sessionName, bodyOf, recordLen};
 ghost use Rattle.words.specs.Tables.{known};
 ghost use Rattle.words.specs.Rows.{findOf, verbRow, optionRow, rowName, rowNames, candidateOf, kindAt};
 
@@ -122,7 +122,7 @@ fn option_row(n: u8) -> [u8; 16]
     OPTIONS[n as usize]
 }
 
-// The number of the verb with these bytes.
+// The number of the verb with this name.
 pub fn verb(t: &[u8]) -> Known
     ensures { λ r. ⌜ r ≡ known (verbOf (now (t .entry))) ⌝ }
 {
@@ -137,11 +137,41 @@ pub fn verb(t: &[u8]) -> Known
     }
 }
 
+// A letter A to Z in lower case; every other byte is itself.
+fn lower(b: u8) -> u8
+    ensures { λ r. ⌜ r ≡ lower b ⌝ }
+{
+    if b < b'A' {
+        return b;
+    }
+    if b'Z' < b {
+        return b;
+    }
+    b + 32
+}
+
+// Whether a text is this name, its letters in either case.
+fn named(t: &[u8], name: &[u8]) -> bool
+    ensures { λ r. ⌜ r ≡ sameBytes (lowered (now (t .entry))) (now (name .entry)) ⌝ }
+{
+    if t.len() != name.len() {
+        return false;
+    }
+    let mut i: usize = 0;
+    while i < t.len() {
+        if lower(t[i]) != name[i] {
+            return false;
+        }
+        i += 1;
+    }
+    true
+}
+
 // A number, if the text is its name.
 fn only(t: &[u8], name: &[u8], number: u8) -> Known
-    ensures { λ r. ⌜ r ≡ known (cond (sameBytes (now (t .entry)) (now (name .entry))) (some number) none) ⌝ }
+    ensures { λ r. ⌜ r ≡ known (cond (sameBytes (lowered (now (t .entry))) (now (name .entry))) (some number) none) ⌝ }
 {
-    if text::same(t, name) {
+    if named(t, name) {
         return Known::Is(number);
     }
     Known::Unknown
@@ -151,19 +181,19 @@ fn only(t: &[u8], name: &[u8], number: u8) -> Known
 fn verb_of_four(t: &[u8]) -> Known
     ensures { λ r. ⌜ r ≡ known (findOf 4 1 verbNames (now (t .entry))) ⌝ }
 {
-    if text::same(t, b"dump") {
+    if named(t, b"dump") {
         return Known::Is(4);
     }
-    if text::same(t, b"exit") {
+    if named(t, b"exit") {
         return Known::Is(5);
     }
-    if text::same(t, b"help") {
+    if named(t, b"help") {
         return Known::Is(6);
     }
-    if text::same(t, b"load") {
+    if named(t, b"load") {
         return Known::Is(7);
     }
-    if text::same(t, b"show") {
+    if named(t, b"show") {
         return Known::Is(10);
     }
     only(t, b"stop", 12)
@@ -172,7 +202,7 @@ fn verb_of_four(t: &[u8]) -> Known
 fn verb_of_five(t: &[u8]) -> Known
     ensures { λ r. ⌜ r ≡ known (findOf 5 1 verbNames (now (t .entry))) ⌝ }
 {
-    if text::same(t, b"reset") {
+    if named(t, b"reset") {
         return Known::Is(8);
     }
     only(t, b"start", 11)
@@ -181,7 +211,7 @@ fn verb_of_five(t: &[u8]) -> Known
 fn verb_of_six(t: &[u8]) -> Known
     ensures { λ r. ⌜ r ≡ known (findOf 6 1 verbNames (now (t .entry))) ⌝ }
 {
-    if text::same(t, b"create") {
+    if named(t, b"create") {
         return Known::Is(2);
     }
     only(t, b"delete", 3)
@@ -194,11 +224,11 @@ pub fn is_session(t: &[u8]) -> bool
     text::same(t, b"SESSION")
 }
 
-// Whether a text is a level's `all`.
+// Whether a text is a level's `all`, its letters in either case.
 pub fn is_all(t: &[u8]) -> bool
     ensures { λ r. ⌜ r ≡ names allName (now (t .entry)) ⌝ }
 {
-    text::same(t, b"all")
+    named(t, b"all")
 }
 
 // The number of the option with this name, long or short: the text after the `-`.
@@ -208,7 +238,7 @@ pub fn option(t: &[u8]) -> Known
     if t.len() == 0 {
         return Known::Unknown;
     }
-    let n = candidate(t[0], t.len());
+    let n = candidate(lower(t[0]), t.len());
     if n == 0 {
         return Known::Unknown;
     }
@@ -218,7 +248,7 @@ pub fn option(t: &[u8]) -> Known
     Known::Unknown
 }
 
-// The one option that a text can name, by its first byte and its length; 0 where there is none.
+// The one option that a text can name, by its first byte in lower case and its length; 0 where there is none.
 fn candidate(first: u8, len: usize) -> u8
     ensures { λ r. ⌜ r ≡ candidateOf first len ⌝ }
 {
@@ -259,10 +289,10 @@ fn row_names(row: [u8; 16], t: &[u8]) -> bool
         if short == 0 {
             return false;
         }
-        return t[0] == short;
+        return lower(t[0]) == short;
     }
     let n = row[0] as usize;
-    text::same(t, &row[1..n + 1])
+    named(t, &row[1..n + 1])
 }
 
 // The form of an option's argument, by the option's number.

@@ -19,8 +19,8 @@ put-raw-requires-2 c κs = search needs
 enum-told-3 : tie.Need-enum-told-3
 enum-told-3 c = search needs
 
-put-raw-requires-3 : tie.Need-put-raw-requires-3
-put-raw-requires-3 c κs = search needs
+put-level-requires : tie.Need-put-level-requires
+put-level-requires c κs = search needs
 
 enum-told-4 : tie.Need-enum-told-4
 enum-told-4 c = search needs
@@ -55,8 +55,8 @@ same-length-3 c = search needs
 
 returns-3 : tie.Need-returns-3
 returns-3 c =
-    let p = c .before .before .put-raw3 in
-    rw (c .before .before .before .before .enum-told3 .given .1) (p .ensures .0, p .ensures .1, omega (arith, p .ensures .0))
+    let p = c .before .before .put-level in
+    rw (c .before .before .before .before .enum-told3 .given .1) (p .ensures .0, p .ensures .1, omega (arith, p .ensures .2))
 
 same-length-4 : tie.Need-same-length-4
 same-length-4 c = search needs
@@ -83,7 +83,7 @@ put-argument-spec =
     enum-told-2
     put-raw-requires-2
     enum-told-3
-    put-raw-requires-3
+    put-level-requires
     enum-told-4
     put-place-requires
     enum-told-5

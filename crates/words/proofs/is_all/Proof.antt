@@ -5,15 +5,15 @@ use borrow.Author.Needs.{needs}
 use Rattle.words.proofs.is_all.Statement.{statement}
 use Rattle.words.proofs.is_all.Tie as tie
 
-slice-aggregate-same : tie.Need-slice-aggregate-same
-slice-aggregate-same c = search needs
+slice-aggregate-named : tie.Need-slice-aggregate-named
+slice-aggregate-named c = search needs
 
-same-requires : tie.Need-same-requires
-same-requires c κs = search needs
+named-requires : tie.Need-named-requires
+named-requires c κs = search needs
 
 returns : tie.Need-returns
 unfolding names allName bytes
-returns c = c .same .ensures
+returns c = c .named .ensures
 
 pub is-all-spec : {M : Type 1} → statement M
-is-all-spec = tie.close (tie.spec slice-aggregate-same same-requires returns)
+is-all-spec = tie.close (tie.spec slice-aggregate-named named-requires returns)

@@ -3,14 +3,14 @@ use borrow.Author.Needs.{needs}
 use Rattle.words.proofs.only.Statement.{statement}
 use Rattle.words.proofs.only.Tie as tie
 
-same-requires : tie.Need-same-requires
-same-requires c κs = search needs
+named-requires : tie.Need-named-requires
+named-requires c κs = search needs
 
 returns : tie.Need-returns
-returns c = rw (← c .before .same .ensures, c .if1 .taken)
+returns c = rw (← c .before .named .ensures, c .if1 .taken)
 
 returns-2 : tie.Need-returns-2
-returns-2 c = rw (← c .before .same .ensures, c .if1 .left)
+returns-2 c = rw (← c .before .named .ensures, c .if1 .left)
 
 pub only-spec : {M : Type 1} → statement M
-only-spec = tie.close (tie.spec same-requires returns returns-2)
+only-spec = tie.close (tie.spec named-requires returns returns-2)

@@ -7,15 +7,15 @@ use borrow.Author.Needs.{needs}
 use Rattle.words.proofs.verb_of_six.Statement.{statement}
 use Rattle.words.proofs.verb_of_six.Tie as tie
 
-slice-aggregate-same : tie.Need-slice-aggregate-same
-slice-aggregate-same c = search needs
+slice-aggregate-named : tie.Need-slice-aggregate-named
+slice-aggregate-named c = search needs
 
-same-requires : tie.Need-same-requires
-same-requires c κs = search needs
+named-requires : tie.Need-named-requires
+named-requires c κs = search needs
 
 returns : tie.Need-returns
 unfolding findOf verbNames names bytes
-returns c = simp (sym (c .before .same .ensures) ∙ c .if1 .taken)
+returns c = simp (sym (c .before .named .ensures) ∙ c .if1 .taken)
 
 slice-aggregate-only : tie.Need-slice-aggregate-only
 slice-aggregate-only c = search needs
@@ -27,14 +27,14 @@ returns-2 : tie.Need-returns-2
 unfolding findOf verbNames names bytes
 returns-2 c =
     let d1 = c .before .before in
-    simp (sym (d1 .before .same .ensures) ∙ d1 .if1 .left) (c .only .ensures)
+    simp (sym (d1 .before .named .ensures) ∙ d1 .if1 .left) (c .only .ensures)
 
 pub verb-of-six-spec : {M : Type 1} → statement M
 verb-of-six-spec =
     tie.close
     (tie.spec
-    slice-aggregate-same
-    same-requires
+    slice-aggregate-named
+    named-requires
     returns
     slice-aggregate-only
     only-requires
