@@ -10,4 +10,9 @@ pub mod Room
 pub mod Grave
 pub mod Within
 pub mod Named
+pub mod CaseBytes
+pub mod CaseTerms
+pub mod CaseDecisions
+pub mod CaseLetters
+pub mod EitherCase
 pub mod Only

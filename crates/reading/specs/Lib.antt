@@ -6,3 +6,4 @@ pub mod Lines
 pub mod Shown
 pub mod Inside
 pub mod Order
+pub mod EitherCase

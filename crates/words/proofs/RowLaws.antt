@@ -221,7 +221,7 @@ candidate-is t k e =
     let p : candidateOf (lower (getD t 0 0)) (length t) ≡ candidateOf (getD (lowered t) 0 0) (length (lowered t)) = rw (lowered-at t 0, lowered-length t) in (
       r .0,
       p
-      ∙ ⊎-elim (λ q. ap (λ s. candidateOf (getD s 0 0) (length s)) q ∙ long-candidate k (r .0) (r .1))
+          ∙ ⊎-elim (λ q. ap (λ s. candidateOf (getD s 0 0) (length s)) q ∙ long-candidate k (r .0) (r .1))
           (λ q. ap (λ s. candidateOf (getD s 0 0) (length s)) q ∙ short-candidate k (r .0) (r .1) (sym (ap isNil q) ∙ lowered-nil t ∙ r .3)) (r .2),
     )
 

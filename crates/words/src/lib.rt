@@ -289,7 +289,9 @@ fn row_names(row: [u8; 16], t: &[u8]) -> bool
         if short == 0 {
             return false;
         }
-        return lower(t[0]) == short;
+        let given = t[0];
+        let folded = lower(given);
+        return folded == short;
     }
     let n = row[0] as usize;
     named(t, &row[1..n + 1])

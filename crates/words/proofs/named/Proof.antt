@@ -39,7 +39,7 @@ returns-2 c =
     let at = c .before .before .before .before .before in
     let a = at .before .before .before .before .args in let i = at .loop .i in let n = lowered-length (a .t .now) in
     sym (same-differs (lowered (a .t .now)) (a .name .now) i (omega arith) (omega arith)
-      (λ e. c .if2 .taken (c .before .before .lower .ensures ∙ sym (lowered-at (a .t .now) i) ∙ e)))
+    (λ e. c .if2 .taken (c .before .before .lower .ensures ∙ sym (lowered-at (a .t .now) i) ∙ e)))
     ∙ at .loop .inv
 
 add-i : tie.Need-add-i Inv-loop μ-loop
@@ -53,7 +53,7 @@ loop-again c =
     let at = c .before .before .before .before .before in
     let a = at .before .before .before .before .args in let i = at .loop .i in let n = lowered-length (a .t .now) in
     sym (same-on (lowered (a .t .now)) (a .name .now) i (omega arith) (omega arith)
-      (lowered-at (a .t .now) i ∙ sym (c .before .before .lower .ensures) ∙ c .if2 .left))
+    (lowered-at (a .t .now) i ∙ sym (c .before .before .lower .ensures) ∙ c .if2 .left))
     ∙ at .loop .inv
 
 returns-3 : tie.Need-returns-3 Inv-loop μ-loop

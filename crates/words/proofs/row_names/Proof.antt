@@ -17,8 +17,8 @@ array-read-short c = search needs
 returns : tie.Need-returns
 returns c = let a = c .before .before .before .args in sym (row-no-short (a .t1) (a .t .now) (search needs) (c .if2 .taken))
 
-shared-slice-read-lower : tie.Need-shared-slice-read-lower
-shared-slice-read-lower c = search needs
+shared-slice-read-given : tie.Need-shared-slice-read-given
+shared-slice-read-given c = search needs
 
 lower-requires : tie.Need-lower-requires
 lower-requires c κs = search needs
@@ -64,7 +64,7 @@ row-names-spec =
     (tie.spec
     array-read-short
     returns
-    shared-slice-read-lower
+    shared-slice-read-given
     lower-requires
     returns-2
     array-read-n
