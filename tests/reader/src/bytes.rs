@@ -39,6 +39,19 @@ pub(crate) fn parts_terms(byte: u8) -> bool {
     PARTS_TERMS[usize::from(byte)]
 }
 
+/// A letter A to Z in lower case, every other byte as it is: the one place where case is folded.
+#[inline]
+pub(crate) fn lowered(byte: u8) -> u8 {
+    byte.to_ascii_lowercase()
+}
+
+/// Whether both have the same bytes, letters in either case; folded byte by byte, never copied.
+#[inline]
+pub(crate) fn same_in_either_case(a: &[u8], b: &[u8]) -> bool {
+    let same = |(&a, &b): (&u8, &u8)| lowered(a) == lowered(b);
+    a.len() == b.len() && a.iter().zip(b).all(same)
+}
+
 /// Whether a GRAVE before `next` escapes it; inside quotes only GRAVE and `"` can be escaped.
 pub(crate) fn grave_escapes(next: u8, in_quote: bool) -> bool {
     if in_quote {
@@ -75,4 +88,28 @@ pub(crate) fn decimal(text: &[u8], most: u32) -> Option<u32> {
         sum = sum * 10 + u64::from(byte - b'0');
     }
     u32::try_from(sum).ok().filter(|&number| number <= most)
+}
+
+#[cfg(test)]
+mod tests {
+    use super::*;
+
+    #[test]
+    fn the_letters_a_to_z_alone_are_folded() {
+        let upper = b"ABCDEFGHIJKLMNOPQRSTUVWXYZ";
+        let lower = b"abcdefghijklmnopqrstuvwxyz";
+        for byte in 0..=255 {
+            let letter = upper.iter().position(|&letter| letter == byte);
+            assert_eq!(lowered(byte), letter.map_or(byte, |at| lower[at]));
+        }
+    }
+
+    #[test]
+    fn either_case_is_compared_over_the_whole_length() {
+        let same = |a: &str, b: &str| same_in_either_case(a.as_bytes(), b.as_bytes());
+        assert!(same("", "") && same("aLl", "AlL") && same("0_[", "0_["));
+        assert!(!same("all", "al") && !same("al", "all") && !same("", "a"));
+        // Each pair differs in bit 5 alone.
+        assert!(!same("[", "{") && !same("@", "`") && !same("\\", "|") && !same("a]", "a}"));
+    }
 }

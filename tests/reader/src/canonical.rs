@@ -1,6 +1,6 @@
 //! "Canonical writing": the one way in which a command is written.
 
-use crate::bytes::{is_word, GRAVE};
+use crate::bytes::{is_word, lowered, GRAVE};
 use crate::path::is_separator;
 use crate::reading::gather;
 use crate::records::{records, Gathered, Record};
@@ -8,7 +8,7 @@ use crate::refusal::{Refusal, ROOM_TOO_SMALL};
 use crate::sink::{Count, Fill, Sink};
 use crate::terms::stood_for;
 use crate::value::{items, list_items, split_named_item};
-use crate::vocabulary::{option_word, verb_word, DESTINATION, DISPLAY, OUTPUT, SOURCE};
+use crate::vocabulary::{option_word, verb_word, DESTINATION, DISPLAY, LEVEL, OUTPUT, SOURCE};
 
 /// No byte of a line leads to more than so many bytes of its writing.
 const MOST_GROWTH: usize = 4;
@@ -72,7 +72,15 @@ fn put_argument(option: u8, text: &[u8], sink: &mut impl Sink) {
     match option {
         SOURCE | DESTINATION => put_location(text, sink),
         DISPLAY | OUTPUT => put_item_row(text, sink),
+        LEVEL => put_level(text, sink),
         _ => sink.put_all(text),
+    }
+}
+
+/// A level: its `all` in lower case; a number has no letters.
+fn put_level(text: &[u8], sink: &mut impl Sink) {
+    for &byte in text {
+        sink.put(lowered(byte));
     }
 }
 

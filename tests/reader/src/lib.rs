@@ -1,4 +1,5 @@
-//! An independent reader of the SM CLP dialect of document 01, written from that paper alone.
+//! An independent reader of the SM CLP dialect of document 01, with request a of document 02,
+//! written from those papers alone.
 //!
 //! One module follows one section of the paper. All functions are total: they take any input,
 //! never panic, and on a refusal leave every lent answer buffer as it was.

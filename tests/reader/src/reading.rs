@@ -10,8 +10,8 @@ use crate::refusal::{
 use crate::terms::{find_terms, Term, Terms};
 use crate::value::{is_item_row, value_length};
 use crate::vocabulary::{
-    name_length, option_number, takes_argument, verb_number, DISPLAY, HELP_VERB, KEEP, LEVEL,
-    OUTPUT,
+    is_level_all, name_length, option_number, takes_argument, verb_number, DISPLAY, HELP_VERB,
+    KEEP, LEVEL, OUTPUT,
 };
 use crate::Part;
 
@@ -114,7 +114,7 @@ fn read_argument(line: &[u8], option: u8, next: Option<&Term>) -> Result<Part, R
     let raw = term.raw(line);
     let is_of_form = match option {
         KEEP => decimal(raw, u32::MAX).is_some(),
-        LEVEL => raw == b"all" || decimal(raw, u32::MAX).is_some(),
+        LEVEL => is_level_all(raw) || decimal(raw, u32::MAX).is_some(),
         DISPLAY | OUTPUT => is_item_row(raw),
         _ => !term.has_quote,
     };

@@ -1,11 +1,12 @@
 //! "Two commands are the same": compared by what their parts stand for, without any writing.
 
+use crate::bytes::same_in_either_case;
 use crate::path::is_separator;
 use crate::reading::gather;
 use crate::records::{records, Gathered, Record};
 use crate::terms::stood_for;
 use crate::value::{items, list_items, split_named_item};
-use crate::vocabulary::{DESTINATION, DISPLAY, OUTPUT, SOURCE};
+use crate::vocabulary::{DESTINATION, DISPLAY, LEVEL, OUTPUT, SOURCE};
 
 /// Whether both lines are accepted and are the same command; blank is the same as blank.
 pub fn same_command(left: &[u8], right: &[u8]) -> bool {
@@ -76,6 +77,8 @@ fn same_argument(option: u8, a: &[u8], b: &[u8]) -> bool {
     match option {
         SOURCE | DESTINATION => stood_for(a).eq(stood_for(b)),
         DISPLAY | OUTPUT => pairwise(items(a), items(b), same_named_item),
+        // A number has no letters, so this is about `all` alone.
+        LEVEL => same_in_either_case(a, b),
         _ => a == b,
     }
 }

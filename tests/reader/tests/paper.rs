@@ -7,12 +7,13 @@ use clp_reader::path::is_target;
 use clp_reader::tree::{check_tree, resolve, Resolved};
 use common::{assert_same_text, numbered_nodes, read_text, repeated};
 
-/// "Lines to check against", each with the text of its answer.
+/// "Lines to check against", each with the text of its answer; `Show` as document 02's request a
+/// has it.
 const LINES_TO_CHECK: [(&str, &str); 13] = [
     ("", "blank"),
     ("show", "verb 10"),
     ("show /system1/cpu4", "verb 10|target 5 13"),
-    ("Show", "refusal 6 0"),
+    ("Show", "verb 10"),
     ("reset -f -force", "refusal 8 9"),
     ("show -level", "refusal 9 11"),
     ("show -level 02", "refusal 10 12"),

@@ -1,4 +1,5 @@
-//! Each row of the table of readings, section by section.
+//! Each row of the tables of readings, section by section: of document 01, and of document 02 for
+//! request a.
 
 mod common;
 
@@ -19,6 +20,17 @@ const NO_ROOM: Refusal = Refusal {
 
 fn refusal(number: u8, place: u16) -> Refusal {
     Refusal { number, place }
+}
+
+fn canonical(line: &str) -> String {
+    let mut room = [0xaa; 4096];
+    let length = write_canonical(line.as_bytes(), &mut room).unwrap();
+    assert!(room[length..].iter().all(|&byte| byte == 0xaa));
+    String::from_utf8(room[..length].to_vec()).unwrap()
+}
+
+fn same(left: &str, right: &str) -> bool {
+    same_command(left.as_bytes(), right.as_bytes())
 }
 
 mod joining {
@@ -269,17 +281,14 @@ mod command {
     use super::*;
 
     #[test]
-    fn words_are_never_lowered() {
-        assert_each(
-            &["Show", "SHOW", "sho", "shows", "\"show\"", "`show"],
-            "refusal 6 0",
-        );
-        assert_each(&["show -Force", "show -F", "show -fo"], "refusal 7 5");
-        assert_same_text(b"show -l ALL", "refusal 10 8");
+    fn session_and_tags_are_compared_byte_for_byte() {
         assert_each(&["show session", "show Session"], "refusal 12 5");
         let mut list = [0; 1];
         let missed = resolve(b"/CPU1", &numbered_nodes(1), 0, &mut list);
         assert_eq!(missed, Err(refusal(18, 1)));
+        for text in [&b"session"[..], b"Session", b"sESSION"] {
+            assert_eq!(resolve(text, &[], 0, &mut list), Err(refusal(12, 0)));
+        }
     }
 
     #[test]
@@ -292,7 +301,7 @@ mod command {
 
     #[test]
     fn options_without_a_short_name() {
-        assert_each(&["show -s a", "show -de a", "show -D a"], "refusal 7 5");
+        assert_each(&["show -s a", "show -S a", "show -de a"], "refusal 7 5");
     }
 
     #[test]
@@ -552,7 +561,7 @@ mod command {
         assert_eq!(read(b"show /", &mut room).unwrap().length, 7);
         assert_eq!(room[..8], [1, 10, 3, 0, 5, 0, 1, 0xaa]);
         // A refused line is that refusal, whatever the room.
-        assert_eq!(read(b"Show", &mut []), Err(refusal(6, 0)));
+        assert_eq!(read(b"shows", &mut []), Err(refusal(6, 0)));
     }
 }
 
@@ -725,13 +734,6 @@ mod resolving {
 mod canonical {
     use super::*;
 
-    fn canonical(line: &str) -> String {
-        let mut room = [0xaa; 4096];
-        let length = write_canonical(line.as_bytes(), &mut room).unwrap();
-        assert!(room[length..].iter().all(|&byte| byte == 0xaa));
-        String::from_utf8(room[..length].to_vec()).unwrap()
-    }
-
     #[test]
     fn separators_of_a_target_alone_are_changed() {
         assert_eq!(
@@ -790,7 +792,7 @@ mod canonical {
 
     #[test]
     fn a_refused_lines_writing_is_that_refusal() {
-        assert_eq!(write_canonical(b"Show", &mut []), Err(refusal(6, 0)));
+        assert_eq!(write_canonical(b"shows", &mut []), Err(refusal(6, 0)));
         let mut room = [0xaa; 14];
         assert_eq!(write_canonical(b"show -f a=b", &mut room), Err(NO_ROOM));
         assert_eq!(room, [0xaa; 14]);
@@ -809,9 +811,8 @@ mod canonical {
 
     #[test]
     fn when_two_lines_are_the_same_command() {
-        let same = |a: &str, b: &str| same_command(a.as_bytes(), b.as_bytes());
         assert!(same("", "  "));
-        assert!(!same("Show", "Show") && !same("", "Show"));
+        assert!(!same("shows", "shows") && !same("", "shows"));
         assert!(same("show -f \\a1", " show  -force /a1"));
         assert!(same("set a=b` c", "set a=\"b c\""));
         assert!(same("set a=(b,\"c\")", "set a=(\"b\",c)"));
@@ -822,5 +823,145 @@ mod canonical {
         assert!(same("load -source a`.b", "load -source a.b"));
         assert!(same("show -d a=b", "show -display a=\"b\""));
         assert!(!same("show -d a=b", "show -d a") && !same("show -d a,b", "show -d b,a"));
+    }
+}
+
+/// Document 02, request a. The words of replies, the table's last row, come with request e.
+mod shouted {
+    use super::*;
+
+    #[test]
+    fn mixed_case_letter_by_letter() {
+        assert_each(&["show", "SHOW", "Show", "sHoW", "SHOw"], "verb 10");
+        assert_each(
+            &[
+                "show -level 2",
+                "SHOW -LEVEL 2",
+                "show -LeVeL 2",
+                "sHoW -levEL 2",
+            ],
+            "verb 10|option 8 12 1",
+        );
+        assert_each(&["cd -l 0", "CD -L 0", "Cd -L 0"], "verb 1|option 8 6 1");
+        assert_each(&["show -D a", "show -d a"], "verb 10|option 3 8 1");
+    }
+
+    #[test]
+    fn nothing_but_letters_folds() {
+        assert_each(
+            &[
+                "[D", "{d", "C$", "c@", "@d", "sh/w", "3how", "SHOW1", "sho", "SHO", "shows",
+                "SHOWS",
+            ],
+            "refusal 6 0",
+        );
+        assert_each(
+            &[
+                "show -[",
+                "show -{",
+                "show -@",
+                "show -L1",
+                "show -@LL",
+                "show -fo",
+                "show -FO",
+                "show -L=1",
+            ],
+            "refusal 7 5",
+        );
+        assert_each(
+            &["show -l @ll", "show -l @LL", "show -l AL"],
+            "refusal 10 8",
+        );
+        // Bytes that differ from a letter in one other bit, or lie beyond ASCII: row 2 comes first.
+        assert_same_text(b"C\xe4", "refusal 2 1");
+        assert_same_text(b"\x13HOW", "refusal 2 0");
+    }
+
+    #[test]
+    fn all_is_levels_argument_and_an_options_name() {
+        assert_each(
+            &["show -l all", "show -l ALL", "show -L aLl", "SHOW -l All"],
+            "verb 10|option 8 8 3",
+        );
+        assert_each(
+            &["show -all", "show -ALL", "show -aLL"],
+            "verb 10|option 1 9 0",
+        );
+        assert_each(&["show -a", "show -A"], "verb 10|option 1 7 0");
+        assert_each(&["cd -k ALL", "cd -k all", "cd -K aLL"], "refusal 10 6");
+        // As an item of display or output, or as a value there, it is a name and exact.
+        assert_each(&["show -d ALL", "show -d all"], "verb 10|option 3 8 3");
+        for (upper, lower) in [
+            ("show -d ALL", "show -d all"),
+            ("show -o ALL", "show -o all"),
+            ("show -d a,ALL", "show -d a,all"),
+            ("show -d a=ALL", "show -d a=all"),
+            ("show -o a=(ALL)", "show -o a=(all)"),
+        ] {
+            assert!(!same(upper, lower) && canonical(upper) != canonical(lower));
+        }
+        assert!(same("show -l ALL", "show -level all"));
+        assert!(same("show -l aLL", "show -L All") && !same("show -l ALL", "show -l 0"));
+    }
+
+    #[test]
+    fn raw_bytes_are_compared() {
+        assert_each(
+            &[
+                "\"show\"", "\"SHOW\"", "`show", "`SHOW", "S`HOW", "SH\"OW\"",
+            ],
+            "refusal 6 0",
+        );
+        assert_each(&["show -\"L\" 1", "show -`L 1"], "refusal 7 5");
+        assert_each(
+            &["show -l \"ALL\"", "show -l `ALL", "show -l A`LL"],
+            "refusal 10 8",
+        );
+    }
+
+    #[test]
+    fn topics_of_help_are_names() {
+        assert_each(&["help SHOW", "HELP show"], "verb 6|property 5 4 0 9 0");
+        assert!(!same("help SHOW", "help show") && same("HELP SHOW", "help SHOW"));
+        assert_eq!(canonical("HELP Show ALL"), "help Show ALL");
+        // A verb in any case is help: its topics are no target, and have no value.
+        assert_each(&["HELP a=b", "Help /"], "refusal 13 5");
+    }
+
+    #[test]
+    fn a_name_in_any_case_is_the_same_option() {
+        assert_each(
+            &[
+                "show -F -force",
+                "show -f -F",
+                "SHOW -F -FORCE",
+                "show -f -Force",
+            ],
+            "refusal 8 8",
+        );
+        assert_each(&["show -A -all", "show -a -ALL"], "refusal 8 8");
+        // Without its argument 8 still comes before 9.
+        assert_same_text(b"show -L 1 -LEVEL", "refusal 8 10");
+        assert_each(&["show -LEVEL", "SHOW -level"], "refusal 9 11");
+        assert_each(&["SHOW -L -ALL", "show -L -NOTHING"], "refusal 9 8");
+        assert_same_text(b"SHOW / -F", "refusal 11 7");
+    }
+
+    #[test]
+    fn canonical_writing_lowers_the_names_alone() {
+        assert_eq!(canonical("SET A=B"), "set A=B");
+        assert_eq!(canonical("SHOW -F -LEVEL ALL"), "show -force -level all");
+        assert_eq!(
+            canonical("Show -L 2 \\SYSTEM1 NAME"),
+            "show -level 2 /SYSTEM1 NAME"
+        );
+        assert_eq!(canonical("SHOW SESSION Name==X"), "show SESSION Name==X");
+        assert_eq!(
+            canonical("LOAD -SOURCE FTP://H/X -D All=(A,\"B c\") A=\"B\""),
+            "load -source FTP://H/X -display All=(A,\"B c\") A=B"
+        );
+        assert!(same("SHOW -F \\A1", "show -force /A1") && !same("cd /A1", "cd /a1"));
+        assert!(!same("set a=B", "set a=b") && !same("set A=b", "set a=b"));
+        assert!(!same("load -source A", "load -source a"));
     }
 }
