@@ -9,6 +9,7 @@ pub mod capture;
 pub mod damage;
 pub mod line;
 pub mod rng;
+pub mod shout;
 pub mod tree;
 
 pub use rng::Rng;

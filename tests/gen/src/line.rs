@@ -1,7 +1,11 @@
-//! Lines: valid by the grammar, damaged, noise, and at the edges of every limit.
+//! Lines: valid by the grammar with names in any case, damaged, noise, at the edges of every limit,
+//! and next to names in another case.
+
+use std::ops::Range;
 
 use crate::damage::{damage, LOADED_BYTES};
 use crate::rng::Rng;
+use crate::shout::{shout, NEXT_TO_LETTERS};
 use crate::tree::{segment_text, tag, TAGS};
 
 pub const VERBS: [&str; 13] = [
@@ -86,31 +90,97 @@ const PIECES: [&str; 40] = [
     "-source", ",",
 ];
 
-/// One line: about half are valid by the grammar, the others damaged, noise or at an edge.
+/// Words that are no names to be shouted, with what stands before and after each: `SESSION`, items,
+/// values, property names, topics, tags and locations, which are exact; and what is not quite
+/// level's `all`.
+const NEAR_WORDS: [(&str, &str, &str); 24] = [
+    ("show ", "session", ""),
+    ("cd ", "session", ""),
+    ("show -l all ", "session", " Name"),
+    ("set -f ", "session", " a=b"),
+    ("show ", "session", "1"),
+    ("show -d ", "all", ""),
+    ("show -o ", "all", " /"),
+    ("show -display a,", "all", ",b"),
+    ("show -output ", "format", "=all"),
+    ("show -d a=", "all", ""),
+    ("show -o a=(b,", "all", ")"),
+    ("help ", "show", ""),
+    ("help -x ", "level all", ""),
+    ("show / ", "all", ""),
+    ("set ", "all", "=b"),
+    ("set a==", "all", ""),
+    ("cd /", "system", "1/cpu*"),
+    ("load -source ", "all", ""),
+    ("dump -destination ", "ftp", "://a"),
+    ("cd -k ", "all", ""),
+    ("show -l ", "al", ""),
+    ("show -level ", "all", "x"),
+    ("show -l \"", "all", "\""),
+    ("show -l `", "all", ""),
+];
+
+/// Where the names of a line stand that match in either case: its verb, its option names without
+/// the `-`, and level's `all`.
+type Places = Vec<Range<usize>>;
+
+/// One line: about half are valid by the grammar, the others damaged, noise, at an edge, or next
+/// to a line with a shouted name.
 pub fn line(rng: &mut Rng) -> Vec<u8> {
     match rng.below(100) {
-        0..=49 => valid_line(rng),
-        50..=71 => {
-            let mut line = valid_line(rng);
+        0..=49 => shouted_line(rng),
+        50..=69 => {
+            let mut line = shouted_line(rng);
             damage(rng, &mut line);
             line
         }
-        72..=81 => edge_line(rng),
-        82..=91 => noise_of_pieces(rng),
+        70..=79 => edge_line(rng),
+        80..=85 => near_miss(rng),
+        86..=93 => noise_of_pieces(rng),
         _ => noise_of_bytes(rng),
     }
 }
 
-/// A line made by the grammar; only rarely does it pass a limit of length or count.
+/// A line made by the grammar, its names in lower case: a command of the benchmark. Only rarely
+/// does it pass a limit of length or count.
 pub fn valid_line(rng: &mut Rng) -> Vec<u8> {
-    if rng.percent(1) {
-        return vec![b' '; rng.below(4)];
+    made_line(rng).0
+}
+
+/// A line made by the grammar, mostly with its names in lower case, otherwise each in any case.
+pub fn shouted_line(rng: &mut Rng) -> Vec<u8> {
+    let (mut line, names) = made_line(rng);
+    if rng.percent(40) {
+        shout_some(rng, &mut line, names);
     }
-    let mut line = Vec::new();
+    line
+}
+
+/// Shouts most of the texts at these places.
+fn shout_some(rng: &mut Rng, line: &mut [u8], places: Places) {
+    for place in places {
+        if rng.percent(80) {
+            shout(rng, &mut line[place]);
+        }
+    }
+}
+
+/// Appends a name, and notes its place.
+fn put_word(word: &str, line: &mut Vec<u8>, names: &mut Places) {
+    names.push(line.len()..line.len() + word.len());
+    line.extend_from_slice(word.as_bytes());
+}
+
+/// A line made by the grammar, its names in lower case, and their places.
+fn made_line(rng: &mut Rng) -> (Vec<u8>, Places) {
+    if rng.percent(1) {
+        return (vec![b' '; rng.below(4)], Places::new());
+    }
+    let (mut line, mut names) = (Vec::new(), Places::new());
     let verb = *rng.pick(&VERBS);
-    line.extend_from_slice(verb.as_bytes());
+    put_word(verb, &mut line, &mut names);
     let options = rng.mostly_small(12);
-    put_options(rng, options, &mut line);
+    put_options(rng, options, &mut line, &mut names);
     let others = rng.mostly_small(8);
     if verb == "help" {
         for _ in 0..others {
@@ -131,7 +201,50 @@ pub fn valid_line(rng: &mut Rng) -> Vec<u8> {
     }
     if rng.percent(5) {
         line.insert(0, b' ');
+        for name in &mut names {
+            *name = name.start + 1..name.end + 1;
+        }
     }
+    (line, names)
+}
+
+/// A line that is next to one with a shouted name: another byte in a letter's place, or another
+/// case where bytes are exact.
+pub fn near_miss(rng: &mut Rng) -> Vec<u8> {
+    if rng.percent(40) {
+        return missed_name(rng);
+    }
+    let (before, word, after) = *rng.pick(&NEAR_WORDS);
+    let mut line = before.as_bytes().to_vec();
+    if rng.percent(30) {
+        let verb = before.find(' ').unwrap_or(0);
+        shout(rng, &mut line[..verb]);
+    }
+    line.extend_from_slice(word.as_bytes());
+    if rng.percent(80) {
+        shout(rng, &mut line[before.len()..]);
+    }
+    line.extend_from_slice(after.as_bytes());
+    line
+}
+
+/// A line by the grammar with one letter of a name lost to a byte next to the letters, or by
+/// another bit than the one that makes its case.
+fn missed_name(rng: &mut Rng) -> Vec<u8> {
+    let (mut line, names) = made_line(rng);
+    if names.is_empty() {
+        return line;
+    }
+    let name = rng.pick(&names).clone();
+    if rng.percent(50) {
+        shout(rng, &mut line[name.clone()]);
+    }
+    let at = rng.between(name.start, name.end - 1);
+    line[at] = if rng.percent(60) {
+        *rng.pick(NEXT_TO_LETTERS)
+    } else {
+        line[at] ^ rng.pick(&[0x01, 0x02, 0x04, 0x08, 0x10, 0x40, 0x80])
+    };
     line
 }
 
@@ -161,7 +274,7 @@ fn put_spaces(rng: &mut Rng, line: &mut Vec<u8>) {
 }
 
 /// So many different options in random order, each by its long or short name.
-fn put_options(rng: &mut Rng, count: usize, line: &mut Vec<u8>) {
+fn put_options(rng: &mut Rng, count: usize, line: &mut Vec<u8>, names: &mut Places) {
     let mut order: [usize; 12] = std::array::from_fn(|index| index);
     for index in 0..count {
         let other = rng.between(index, order.len() - 1);
@@ -174,13 +287,16 @@ fn put_options(rng: &mut Rng, count: usize, line: &mut Vec<u8>) {
         } else {
             option.short
         };
-        line.extend_from_slice(name.as_bytes());
+        put_word(name, line, names);
         match option.argument {
             Argument::None => {}
             Argument::Location => put_term(rng, line, put_location),
             Argument::Items => put_term(rng, line, put_items),
             Argument::Keep => put_term(rng, line, put_number),
-            Argument::Level if rng.percent(30) => line.extend_from_slice(b" all"),
+            Argument::Level if rng.percent(30) => {
+                line.push(b' ');
+                put_word("all", line, names);
+            }
             Argument::Level => put_term(rng, line, put_number),
         }
     }
@@ -379,8 +495,17 @@ fn put_segment(rng: &mut Rng, is_last: bool, line: &mut Vec<u8>) {
     }
 }
 
-/// A line at the edge of one limit of the paper.
+/// A line at the edge of one limit of the paper, its verb shouted now and then.
 pub fn edge_line(rng: &mut Rng) -> Vec<u8> {
+    let mut line = line_at_an_edge(rng);
+    if rng.percent(20) {
+        let verb = line.iter().take_while(|&&byte| byte != b' ').count();
+        shout(rng, &mut line[..verb]);
+    }
+    line
+}
+
+fn line_at_an_edge(rng: &mut Rng) -> Vec<u8> {
     match rng.below(11) {
         0 => line_of_about_1024(rng),
         1 => line_of_about_64_terms(rng),
@@ -525,12 +650,16 @@ fn edge_number(rng: &mut Rng) -> Vec<u8> {
     line
 }
 
-/// Options of which one may come twice, by the same name or the other.
+/// Options of which one may come twice, by the same name or the other, in any case.
 fn repeated_option(rng: &mut Rng) -> Vec<u8> {
     let mut line = b"show".to_vec();
+    let mut names = Places::new();
     for _ in 0..2 {
         let count = rng.between(1, 4);
-        put_options(rng, count, &mut line);
+        put_options(rng, count, &mut line, &mut names);
+    }
+    if rng.percent(40) {
+        shout_some(rng, &mut line, names);
     }
     line
 }
@@ -542,6 +671,9 @@ fn option_at_the_end(rng: &mut Rng) -> Vec<u8> {
     line.extend_from_slice(option);
     let after = rng.pick_text(&["", " ", "   ", " -f", " -", " `-f", " -l 1"]);
     line.extend_from_slice(after);
+    if rng.percent(30) {
+        shout(rng, &mut line);
+    }
     line
 }
 
@@ -577,20 +709,28 @@ fn many_list_items(rng: &mut Rng) -> Vec<u8> {
     line
 }
 
-/// Words and marks of the dialect in no order.
+/// Words and marks of the dialect in no order, some of them shouted.
 pub fn noise_of_pieces(rng: &mut Rng) -> Vec<u8> {
     let mut line = Vec::new();
     if rng.percent(80) {
-        line.extend_from_slice(rng.pick_text(&VERBS));
+        put_piece(rng, &VERBS, &mut line);
         line.push(b' ');
     }
     for _ in 0..rng.below(9) {
-        line.extend_from_slice(rng.pick_text(&PIECES));
+        put_piece(rng, &PIECES, &mut line);
         if rng.percent(60) {
             line.push(b' ');
         }
     }
     line
+}
+
+fn put_piece(rng: &mut Rng, pieces: &[&'static str], line: &mut Vec<u8>) {
+    let start = line.len();
+    line.extend_from_slice(rng.pick_text(pieces));
+    if rng.percent(20) {
+        shout(rng, &mut line[start..]);
+    }
 }
 
 /// Bytes over a biased alphabet; a few lines have any byte at all.
@@ -616,12 +756,12 @@ pub fn noise_of_bytes(rng: &mut Rng) -> Vec<u8> {
     line
 }
 
-/// Texts handed to a resolver as a target: paths by grammar, damaged, and noise.
+/// Texts handed to a resolver as a target: paths by grammar, damaged, in another case, and noise.
 pub fn loose_target(rng: &mut Rng) -> Vec<u8> {
     let mut text = Vec::new();
     match rng.below(10) {
         0 => {}
-        1 => text.extend_from_slice(rng.pick_text(&PIECES)),
+        1 => put_piece(rng, &PIECES, &mut text),
         2 => text = noise_of_bytes(rng),
         3 => {
             put_target(rng, &mut text);
@@ -630,6 +770,10 @@ pub fn loose_target(rng: &mut Rng) -> Vec<u8> {
         4 => {
             text.extend_from_slice(rng.pick_text(&TAGS));
             text.extend_from_slice(rng.pick_text(&EDGE_NUMBERS));
+        }
+        5 => {
+            text.extend_from_slice(b"SESSION");
+            shout(rng, &mut text);
         }
         _ => put_target(rng, &mut text),
     }

@@ -3,6 +3,7 @@
 use crate::damage::damage;
 use crate::line::loose_target;
 use crate::rng::Rng;
+use crate::shout::shout;
 
 pub const TAGS: [&str; 8] = [
     "system",
@@ -168,7 +169,8 @@ pub fn default_target(rng: &mut Rng, tree: &Tree) -> u16 {
     }
 }
 
-/// A target's text: mostly the way to some node of the tree, from the root or the default.
+/// A target's text: mostly the way to some node of the tree, from the root or the default; now and
+/// then its tags are in another case, or it is damaged.
 pub fn path(rng: &mut Rng, tree: &Tree, default_target: u16) -> Vec<u8> {
     if tree.nodes.is_empty() || rng.percent(25) {
         return loose_target(rng);
@@ -177,6 +179,7 @@ pub fn path(rng: &mut Rng, tree: &Tree, default_target: u16) -> Vec<u8> {
     match rng.below(10) {
         0 => damage(rng, &mut text),
         1 | 2 => star_last_segment(&mut text),
+        3 => shout(rng, &mut text),
         _ => {}
     }
     text
