@@ -135,7 +135,9 @@ enum {
  *
  * An argument or a value that is absent has length 0 and the position after its term. Parts are as the line has them, quotes, parentheses and
  * backticks included. Records stand in the order of the line: the verb; the options; the target, if there is one; the properties. The topics of help
- * are properties without an operator. A line without terms is one blank. Refusal and cut are made by clp_list and clp_list_end alone.
+ * are properties without an operator. The verb, option names and level's argument all have letters in either case (SHOW -L ALL is show -level all, and
+ * its argument's three bytes are ALL); a tag, SESSION, a name and a value are told by their bytes alone. A line without terms is one blank. Refusal
+ * and cut are made by clp_list and clp_list_end alone.
  *
  * For example the line  show -level 2 /system1/cpu* Name  has these 23 bytes of records:
  *     01 0A                            verb 10, show
@@ -244,9 +246,10 @@ clp_part clp_target(const uint8_t *line, size_t line_len);
  * of, that refusal, from every place. Each call judges the whole line anew. */
 clp_term clp_next_term(const uint8_t *line, size_t line_len, size_t place);
 
-/* Writes a line canonically; the value is how many bytes, at most CLP_CANONICAL_BYTES. Terms parted by one space; long option names; / for \ in the
- * target; a value or list item of letters, digits and underscores plain, any other in quotes; a blank line writes nothing. A writing of over
- * CLP_LINE_BYTES is still written, but is refused as CLP_REFUSED_LONG_LINE where it is read. */
+/* Writes a line canonically; the value is how many bytes, at most CLP_CANONICAL_BYTES. Terms parted by one space; long option names; the verb, option
+ * names and level's all in lower case, all other letters as the line has them; / for \ in the target; a value or list item of letters, digits and
+ * underscores plain, any other in quotes; a blank line writes nothing. A writing of over CLP_LINE_BYTES is still written, but is refused as
+ * CLP_REFUSED_LONG_LINE where it is read. */
 clp_answer clp_canonical(const uint8_t *line, size_t line_len, uint8_t *room, size_t room_len);
 
 /* Writes the bytes that a text stands for, as a value, an argument or a term has it: quote marks taken out, each escaped byte for its pair; a backtick that

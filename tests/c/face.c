@@ -62,6 +62,21 @@ static void worked_records(void)
     CHECK(is(clp_meant(TEXT("\"a`\"b\""), lend(), sizeof room), 0, 3) && memcmp(room, "a\"b", 3) == 0);
 }
 
+/* Letters in either case: SHOW -L ALL is show -level all, its argument as the line has it; a tag, SESSION, a name and a value by their bytes alone. */
+static void either_case(void)
+{
+    static const uint8_t records[] = {0x01, 0x0A, 0x02, 0x08, 0x00, 0x08, 0x00, 0x03};
+    static const char writing[] = "show -level all -display ALL";
+    uint16_t list[2] = {7, 7};
+    CHECK(is(clp_read(TEXT("SHOW -L ALL"), lend(), sizeof room), 0, sizeof records) && memcmp(room, records, sizeof records) == 0);
+    CHECK(is(clp_read(TEXT("show -F -force"), lend(), sizeof room), CLP_REFUSED_OPTION_TWICE, 8) && unchanged());
+    CHECK(is(clp_canonical(TEXT("Show -l aLL -D ALL"), lend(), sizeof room), 0, sizeof writing - 1) && memcmp(room, writing, sizeof writing - 1) == 0);
+    CHECK(is(clp_canonical(TEXT("HELP Show"), lend(), sizeof room), 0, 9) && memcmp(room, "help Show", 9) == 0);
+    CHECK(is(clp_read(TEXT("show session"), lend(), sizeof room), CLP_REFUSED_TARGET, 5) && unchanged());
+    CHECK(is(clp_resolve(TEXT("CPU*"), TREE, sizeof TREE, 1, list, 2), CLP_REFUSED_CHILD, 0) && list[0] == 7);
+    CHECK(is(clp_resolve(TEXT("CPU4"), TREE, sizeof TREE, 1, list, 2), CLP_REFUSED_CHILD, 0) && list[0] == 7);
+}
+
 static void worked_tree(void)
 {
     uint16_t list[2] = {7, 7};
@@ -258,6 +273,7 @@ static void nulls(void)
 int main(void)
 {
     worked_records();
+    either_case();
     worked_tree();
     numbers();
     states();

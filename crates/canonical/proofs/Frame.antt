@@ -34,7 +34,7 @@ textsOf : Bool → List Sign → List (List Sign)
 textsOf g [] = []
 textsOf g (x ∷ xs) = cond (g && not (isGap x)) (upTo isGap (x ∷ xs) ∷ textsOf (isGap x) xs) (textsOf (isGap x) xs)
 
-texts : List Term → List (List Sign)
+unfoldable pub texts : List Term → List (List Sign)
 texts [] = []
 texts (t ∷ ts) = t .text ∷ texts ts
 
@@ -223,7 +223,7 @@ pub record Back (s : State) (i : Item) : Type 0 where
   pub again : decide s (writeItem i) ≡ takes i
   pub isWord : word (writeItem i) ≡ true
 
-clean-texts : (line : List ℕ) → allOf printable line ≡ true → allOf cleanText (texts (termsOf line)) ≡ true
+pub clean-texts : (line : List ℕ) → allOf printable line ≡ true → allOf cleanText (texts (termsOf line)) ≡ true
 unfolding termsOf
 clean-texts line k = ap (allOf cleanText) (texts-of 0 true (signs Out line)) ∙ texts-clean true (signs Out line) (signs-clean Out line k)
 

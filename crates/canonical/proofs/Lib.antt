@@ -6,6 +6,7 @@ pub mod Entries
 pub mod Targets
 pub mod Places
 pub mod ReadBack
+pub mod WrittenCase
 pub mod Same
 pub mod TextWriting
 pub mod TermWriting

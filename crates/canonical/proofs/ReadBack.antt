@@ -177,7 +177,7 @@ again-in p help seen count t i h k =
     (λ n a d e. argument-back help seen count n t a e k) (λ g f n e. target-back help seen count (raws t) g f e)
     (λ q n m e. first-back help seen count t q n (property-back help count t q c m e)) (λ q m e. rest-back help seen count t q (property-back help count t q c m e)) p i h
 
-one-term : (s : State) (t : List Sign) (i : Item) → decide s t ≡ takes i → cleanText t ≡ true → Back s i
+pub one-term : (s : State) (t : List Sign) (i : Item) → decide s t ≡ takes i → cleanText t ≡ true → Back s i
 unfolding decide
 one-term s t i h k =
     let b = again-in (s .phase) (s .help) (s .seen) (s .count) t i h k in

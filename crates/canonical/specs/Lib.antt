@@ -1,3 +1,4 @@
 pub mod Canonical
 pub mod Written
 pub mod Writings
+pub mod WrittenCase

@@ -32,7 +32,7 @@ unfoldable addressed : String → Resolved × List ℕ
 addressed s = (resolveOf 2 (bytes s) small 1, resolveList (9 ∷ 9 ∷ []) (bytes s) small 1)
 
 texts : List String
-texts = "" ∷ "/" ∷ "." ∷ ".." ∷ "../.." ∷ "cpu4" ∷ "cpu*" ∷ "/system2/cpu1" ∷ "\\system2\\cpu*" ∷ "/system2/cpu4" ∷ "/cpu1" ∷ "cpu1/../fan65535" ∷ "SESSION" ∷ "cpu" ∷ []
+texts = "" ∷ "/" ∷ "." ∷ ".." ∷ "../.." ∷ "cpu4" ∷ "cpu*" ∷ "/system2/cpu1" ∷ "\\system2\\cpu*" ∷ "/system2/cpu4" ∷ "/cpu1" ∷ "cpu1/../fan65535" ∷ "SESSION" ∷ "cpu" ∷ "CPU4" ∷ "session" ∷ []
 
 resolving : map addressed texts
     ≡ (resolved.Nodes 1, 1 ∷ 9 ∷ [])
@@ -48,6 +48,8 @@ resolving : map addressed texts
     ∷ (resolved.Refused 18 1, 9 ∷ 9 ∷ [])
     ∷ (resolved.Nodes 1, 4 ∷ 9 ∷ [])
     ∷ (resolved.Session, 9 ∷ 9 ∷ [])
+    ∷ (resolved.Refused 12 0, 9 ∷ 9 ∷ [])
+    ∷ (resolved.Refused 18 0, 9 ∷ 9 ∷ [])
     ∷ (resolved.Refused 12 0, 9 ∷ 9 ∷ [])
     ∷ []
 unfolding texts addressed small node bytes sameBytes allOf anyOf parts runLen valueFrom isDecimal wrote filled sessionName tagLen isNumbered isStarred isSegment areSegments segmentOf segmentsOf pathOf targetOf tagIn paddingIn sameNode twinIn twin badForm badRecord checkFrom checkTree recordAt nodesFrom taggedIn namedIn isTagged isNamed taggedUnder namedUnder along instancesOf resolveOf resolveList
