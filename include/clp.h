@@ -135,9 +135,10 @@ enum {
  *
  * An argument or a value that is absent has length 0 and the position after its term. Parts are as the line has them, quotes, parentheses and
  * backticks included. Records stand in the order of the line: the verb; the options; the target, if there is one; the properties. The topics of help
- * are properties without an operator. The verb, option names and level's argument all have letters in either case (SHOW -L ALL is show -level all, and
- * its argument's three bytes are ALL); a tag, SESSION, a name and a value are told by their bytes alone. A line without terms is one blank. Refusal
- * and cut are made by clp_list and clp_list_end alone.
+ * are properties without an operator. A line without terms is one blank. Refusal and cut are made by clp_list and clp_list_end alone.
+ *
+ * The verb, option names and the word all as level's argument may have letters of either case: SHOW -L ALL is show -level all, and its argument is told
+ * as the three bytes ALL, so who looks for all compares in either case. A tag, SESSION, a name and a value are told by their bytes alone.
  *
  * For example the line  show -level 2 /system1/cpu* Name  has these 23 bytes of records:
  *     01 0A                            verb 10, show
@@ -190,7 +191,7 @@ enum {
     CLP_VERB_VERSION = 13
 };
 
-/* Each is given at most once in a line, by its long or its short name. */
+/* Each is given at most once in a line, by its long or its short name, in either case. */
 enum {
     CLP_OPTION_ALL = 1,         /* -all, -a */
     CLP_OPTION_DESTINATION = 2, /* -destination, with an argument */

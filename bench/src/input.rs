@@ -15,9 +15,18 @@ fn lines(size: usize, mut next: impl FnMut() -> Vec<u8>) -> Vec<Vec<u8>> {
 
 /// Commands that are accepted.
 pub fn commands(rng: &mut Rng, size: usize) -> Vec<Vec<u8>> {
+    accepted(rng, size, line::valid_line)
+}
+
+/// Such commands with verb, option names and level's `all` in capitals.
+pub fn shouted(rng: &mut Rng, size: usize) -> Vec<Vec<u8>> {
+    accepted(rng, size, line::loud_line)
+}
+
+fn accepted(rng: &mut Rng, size: usize, make: fn(&mut Rng) -> Vec<u8>) -> Vec<Vec<u8>> {
     let mut room = [0; 400];
     lines(size, || loop {
-        let line = line::valid_line(rng);
+        let line = make(rng);
         if clp_reader::reading::read(&line, &mut room).is_ok() && !line.is_empty() {
             return line;
         }

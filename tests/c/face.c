@@ -72,6 +72,7 @@ static void either_case(void)
     CHECK(is(clp_read(TEXT("show -F -force"), lend(), sizeof room), CLP_REFUSED_OPTION_TWICE, 8) && unchanged());
     CHECK(is(clp_canonical(TEXT("Show -l aLL -D ALL"), lend(), sizeof room), 0, sizeof writing - 1) && memcmp(room, writing, sizeof writing - 1) == 0);
     CHECK(is(clp_canonical(TEXT("HELP Show"), lend(), sizeof room), 0, 9) && memcmp(room, "help Show", 9) == 0);
+    CHECK(is(clp_canonical(TEXT("SET A=B"), lend(), sizeof room), 0, 7) && memcmp(room, "set A=B", 7) == 0);
     CHECK(is(clp_read(TEXT("show session"), lend(), sizeof room), CLP_REFUSED_TARGET, 5) && unchanged());
     CHECK(is(clp_resolve(TEXT("CPU*"), TREE, sizeof TREE, 1, list, 2), CLP_REFUSED_CHILD, 0) && list[0] == 7);
     CHECK(is(clp_resolve(TEXT("CPU4"), TREE, sizeof TREE, 1, list, 2), CLP_REFUSED_CHILD, 0) && list[0] == 7);

@@ -19,13 +19,13 @@ use Rattle.words.specs.Words.{lowered, names, optionName, optionOf, verbName, v
 use Rattle.canonical.proofs.Lexing.{okBare, okSign, good}
 use Rattle.canonical.proofs.Values.{good-bares, starts-none, word-byte}
 use Rattle.canonical.proofs.Targets.{okWritten, digit-segment, byte-segment}
-use Rattle.text.proofs.Tests.{and-l, and-r, and-in, or-l, or-r, or-in-l, or-in-r, no-case, either, or-case}
+use Rattle.text.proofs.Tests.{and-l, and-r, and-in, or-l, or-r, no-case, either, or-case}
 use Rattle.text.proofs.SameTexts.{same-eq}
 use Rattle.text.proofs.AllAny.{all-mono}
 use Rattle.terms.proofs.Bares.{none-bares}
 use Rattle.text.proofs.Decimals.{decimal-made}
-use Rattle.words.proofs.Folding.{lowered-length, lowered-again, lowered-digits}
-use Rattle.words.proofs.WordLaws.{names-either, verb-again, verb-shape, verb-only-name, option-again, option-shape, option-only-name}
+use Rattle.words.proofs.Folding.{lowered-length, lowered-digits}
+use Rattle.words.proofs.WordLaws.{names-told, verb-again, verb-shape, verb-only-name, option-again, option-shape, option-only-name}
 use Rattle.terms.specs.RowWords.{turns}
 
 -- ---- bare texts
@@ -66,13 +66,9 @@ keep-ok s e = record { bytesOk = keep-written s e; isSome = keep-some s e }
 
 -- ---- levels: in lower case, `all` or the number as it is
 
-all-lowered : (s : List ℕ) → names allName s ≡ true → lowered s ≡ allName
-unfolding names
-all-lowered s e = same-eq (lowered s) allName (and-r (not (isNil allName)) (sameBytes (lowered s) allName) e)
-
 pub all-length : (s : List ℕ) → names allName s ≡ true → length s ≡ 3
 unfolding allName bytes
-all-length s e = sym (lowered-length s) ∙ ap length (all-lowered s e)
+all-length s e = sym (lowered-length s) ∙ ap length (names-told allName s e .0)
 
 keep-lowered : (s : List ℕ) → isKeep s ≡ true → lowered s ≡ s
 unfolding isKeep
@@ -81,19 +77,13 @@ keep-lowered s e = lowered-digits s (decimal-made 4294967295 s e .all)
 pub level-told : (s : List ℕ) → isLevel s ≡ true → lowered s ≡ levelIn s
 unfolding isLevel levelIn
 level-told s e =
-    either (names allName s) (λ n. rw n (all-lowered s n))
+    either (names allName s) (λ n. rw n (names-told allName s n .0))
     (λ n. rw n (or-case (isKeep s) (names allName s) e (keep-lowered s) (λ m. no-case (sym m ∙ n))))
-
-pub level-again : (s : List ℕ) → isLevel s ≡ true → isLevel (lowered s) ≡ true
-unfolding isLevel
-level-again s e =
-    or-case (isKeep s) (names allName s) e (λ k. or-in-l (isKeep (lowered s)) (names allName (lowered s)) (ap isKeep (keep-lowered s k) ∙ k))
-    (λ n. or-in-r (isKeep (lowered s)) (names allName (lowered s)) (names-either allName (lowered s) s (lowered-again s) ∙ n))
 
 pub level-ok : (s : List ℕ) → isLevel s ≡ true → NumberOk (lowered s)
 unfolding isLevel
 level-ok s e =
-    or-case (isKeep s) (names allName s) e (λ k. subst NumberOk (sym (keep-lowered s k)) (keep-ok s k)) (λ n. subst NumberOk (sym (all-lowered s n)) all-ok)
+    or-case (isKeep s) (names allName s) e (λ k. subst NumberOk (sym (keep-lowered s k)) (keep-ok s k)) (λ n. subst NumberOk (sym (names-told allName s n .0)) all-ok)
 
 -- ---- places
 

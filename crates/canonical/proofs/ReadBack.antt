@@ -30,7 +30,8 @@ use Rattle.canonical.proofs.Names.{okSaid, okProperty, okEntry, okOptio
 use Rattle.canonical.proofs.Entries.{entries-again, entries-good, entries-some, entries-ok}
 use Rattle.canonical.proofs.Targets.{okWritten, target-ok}
 use Rattle.words.proofs.Folding.{lowered-again}
-use Rattle.canonical.proofs.Places.{written-good, written-eq, written-dash, keep-ok, level-ok, level-again, place-ok, stands-some, verb-ok, option-ok, NumberOk}
+use Rattle.reading.proofs.CaseDecisions.{level-lowered}
+use Rattle.canonical.proofs.Places.{written-good, written-eq, written-dash, keep-ok, level-ok, place-ok, stands-some, verb-ok, option-ok, NumberOk}
 use Rattle.text.proofs.Tests.{and-l, and-r, no-case}
 use Rattle.text.proofs.AllAny.{map-some}
 use Rattle.terms.proofs.Bares.{raws-bares}
@@ -118,7 +119,7 @@ argument-ok k t a h c =
     argument-from ArgumentOk t (λ e. number-back Keep (raws t) (keep-ok (raws t) e) (simp (raws-bares (raws t), e)))
     (λ e.
     let s = lowered (raws t) in
-    number-back Level s (level-ok (raws t) e) (simp (raws-bares s, level-again (raws t) e, lowered-again (raws t)))) (λ e. place-back (stands t) (stands-some t some′ e) (stands-clean t clean))
+    number-back Level s (level-ok (raws t) e) (simp (raws-bares s, level-lowered (raws t) ∙ e, lowered-again (raws t)))) (λ e. place-back (stands t) (stands-some t some′ e) (stands-clean t clean))
     (λ es e. let o = entries-ok t es e clean in entries-back es (o .0) (o .1)) k a h
 
 argument-back : (help : Bool) (seen : List Bool) (count n : ℕ) (t : List Sign) (a : Argument) → argumentBy (kindOf n) t ≡ some a → cleanText t ≡ true

@@ -5,10 +5,9 @@ use mathlib.Core.List.{List, [], _∷_, map}
 use mathlib.Core.Bool.{true, false}
 use mathlib.Core.Option.{some}
 use lib.ListN.{length, drop}
-use Rattle.text.specs.Bytes.{sameBytes}
 use Rattle.text.specs.Lists.{allOf}
 use Rattle.text.proofs.Tests.{and-l, and-r, and-in, no-case, either}
-use Rattle.text.proofs.SameTexts.{same-refl}
+use Rattle.text.proofs.SameTexts.{eq-same}
 use Rattle.terms.specs.Signs.{Sign, raws, bares}
 use Rattle.terms.proofs.Bares.{raws-bares}
 use Rattle.terms.proofs.SignBytes.{raws-signs}
@@ -40,32 +39,32 @@ abbrev isLowered : List Sign → Type 0
 isLowered w = lowered (raws w) ≡ raws w
 
 -- a text in lower case, written bare, is so: bare signs are their own bytes
-bares-lowered : (s : List ℕ) → lowered s ≡ s → isLowered (bares s)
-bares-lowered s e = ap lowered (raws-bares s) ∙ e ∙ sym (raws-bares s)
+bares-low : (s : List ℕ) → lowered s ≡ s → isLowered (bares s)
+bares-low s e = ap lowered (raws-bares s) ∙ e ∙ sym (raws-bares s)
 
 -- the verb is written so: its name has letters in lower case alone
-verb-lowered : (s : List ℕ) (n : ℕ) → verbOf s ≡ some n → isLowered (writeItem (verb n))
-verb-lowered s n h = let o = verb-only-name s n h in bares-lowered (verbName n) (lowered-same (verbName n) (verb-shape n (o .0) (o .1) .1))
+verb-low : (s : List ℕ) (n : ℕ) → verbOf s ≡ some n → isLowered (writeItem (verb n))
+verb-low s n h = let o = verb-only-name s n h in bares-low (verbName n) (lowered-same (verbName n) (verb-shape n (o .0) (o .1) .1))
 
 -- an option is written so: its long name has such letters alone, and the `-` before it is no letter
-option-lowered : (s : List ℕ) (n : ℕ) → optionOf s ≡ some n → isLowered (writeItem (option n))
+option-low : (s : List ℕ) (n : ℕ) → optionOf s ≡ some n → isLowered (writeItem (option n))
 unfolding raws lowered lower
-option-lowered s n h =
+option-low s n h =
     let o = option-only-name s n h in
-    ap (λ (z : List ℕ). 45 ∷ z) (bares-lowered (optionName n) (lowered-same (optionName n) (option-shape n (o .0) (o .1) .1)))
+    ap (λ (z : List ℕ). 45 ∷ z) (bares-low (optionName n) (lowered-same (optionName n) (option-shape n (o .0) (o .1) .1)))
 
 -- level's argument is written so: it was put in lower case where it was read
-level-lowered : (t : List Sign) (k : Kind) (a : Argument) → argumentBy k t ≡ some a → isLevelKind k ≡ true → isLowered (writeArgument a)
-level-lowered t k a e =
-    argument-from (λ d x. isLevelKind d ≡ true → isLowered (writeArgument x)) t (λ _ n. no-case (sym n)) (λ _ _. bares-lowered (lowered (raws t)) (lowered-again (raws t)))
+level-low : (t : List Sign) (k : Kind) (a : Argument) → argumentBy k t ≡ some a → isLevelKind k ≡ true → isLowered (writeArgument a)
+level-low t k a e =
+    argument-from (λ d x. isLevelKind d ≡ true → isLowered (writeArgument x)) t (λ _ n. no-case (sym n)) (λ _ _. bares-low (lowered (raws t)) (lowered-again (raws t)))
     (λ _ n. no-case (sym n)) (λ _ _ n. no-case (sym n)) k a e
 
--- hence every item in either case is, whichever its term was taken as
-item-lowered : (s : State) (t : List Sign) (i : Item) → decide s t ≡ takes i → inEitherCase i ≡ true → isLowered (writeItem i)
+-- hence every item in either case is written so, whichever its term was taken as
+item-low : (s : State) (t : List Sign) (i : Item) → decide s t ≡ takes i → inEitherCase i ≡ true → isLowered (writeItem i)
 unfolding decide
-item-lowered s t i d =
-    taken-case (λ _ j. inEitherCase j ≡ true → isLowered (writeItem j)) (s .help) (s .seen) (s .count) t (λ k e _. verb-lowered (raws t) k e)
-    (λ k e _ _. option-lowered (drop 1 (raws t)) k e) (λ k a _ e n. level-lowered t (kindOf k) a e n) (λ _ _ _ _ n. no-case (sym n)) (λ _ _ _ _ n. no-case (sym n))
+item-low s t i d =
+    taken-case (λ _ j. inEitherCase j ≡ true → isLowered (writeItem j)) (s .help) (s .seen) (s .count) t (λ k e _. verb-low (raws t) k e)
+    (λ k e _ _. option-low (drop 1 (raws t)) k e) (λ k a _ e n. level-low t (kindOf k) a e n) (λ _ _ _ _ n. no-case (sym n)) (λ _ _ _ _ n. no-case (sym n))
     (λ _ _ _ n. no-case (sym n)) (s .phase) i d
 
 -- ---- every other part is written with the letters of its term
@@ -76,10 +75,6 @@ item-letters s t i d k n = part-letters s (writeItem i) i (one-term s t i d k .a
 
 -- ---- the parts of a line
 
--- texts that are equal pass the test of the same bytes
-same-in : (a b : List ℕ) → a ≡ b → sameBytes a b ≡ true
-same-in a b e = ap (sameBytes a) (sym e) ∙ same-refl a
-
 module _ (line : List ℕ) where
   -- one part: its own bytes in the line are those of the term that it was taken from
   part-case : (s : State) (p : Span) (i : Item) → decide s (termIn line p .text) ≡ takes i → cleanText (termIn line p .text) ≡ true
@@ -89,8 +84,8 @@ module _ (line : List ℕ) where
       let t = termIn line p .text in
       let w = raws (writeItem i) in
       let own = ap letters (raws-signs (partAt line p) ∙ sym (own-bytes line p i)) in
-      either (inEitherCase i) (λ e. rw e (same-in (lowered w) w (item-lowered s t i d e)))
-      (λ e. rw e (same-in (letters w) (letters (partBytes line (partOf (termIn line p) i))) (item-letters s t i d k e ∙ own)))
+      either (inEitherCase i) (λ e. rw e (eq-same (lowered w) w (item-low s t i d e)))
+      (λ e. rw e (eq-same (letters w) (letters (partBytes line (partOf (termIn line p) i))) (item-letters s t i d k e ∙ own)))
 
   -- all the parts, as the walk over the line's terms takes them one by one
   walk-case : (n : ℕ) (s : State) (ls : List Span) (ps : List Part) → allOf cleanText (texts (map (termIn line) ls)) ≡ true → walkTerms n s (map (termIn line) ls) ≡ read ps
@@ -106,6 +101,7 @@ module _ (line : List ℕ) where
       (walk-case n (next s (f .item)) ls (f .rest) (and-r c more k) (f .walked))
 
 -- CANONICAL WRITING IS IN LOWER CASE WHERE EITHER CASE IS READ, AND HAS THE LINE'S OWN LETTERS ELSEWHERE
+-- (the places of a line's own terms: the law of two lines, of the line and itself)
 pub written-case : (line : List ℕ) (ps : List Part) → readingOf line ≡ read ps → allOf (rightCase line) ps ≡ true
 written-case line ps h =
     let w = read-walk line ps h in

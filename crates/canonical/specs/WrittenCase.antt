@@ -1,4 +1,4 @@
--- The case of letters in canonical writing, part by part.
+-- Request a: the case of letters in canonical writing, part by part.
 use Prim.Native.Nat.{ℕ}
 use mathlib.Core.List.{List}
 use mathlib.Core.Bool.{Bool, cond}

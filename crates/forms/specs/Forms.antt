@@ -22,7 +22,7 @@ isName (b ∷ s) = isLetter b && (allOf isWord s && leb (length s) 63)
 unfoldable pub isKeep : List ℕ → Bool
 isKeep s = isDecimal 4294967295 s
 
--- level: the same, or `all`
+-- level: the same, or `all`, its letters in either case
 unfoldable pub isLevel : List ℕ → Bool
 isLevel s = isKeep s || names allName s
 

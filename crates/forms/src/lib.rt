@@ -554,7 +554,7 @@ pub fn is_keep(t: &[u8]) -> bool
     }
 }
 
-// level: the same, or `all`.
+// level: the same, or `all`, its letters in either case.
 pub fn is_level(t: &[u8]) -> bool
     ensures { λ r. ⌜ r ≡ isLevel (now (t .entry)) ⌝ }
 {

@@ -17,7 +17,7 @@ use Rattle.reading.specs.EitherCase.{letters}
 
 -- ---- a byte
 
--- a class that has all letters or none has a byte exactly where it has the byte in lower case: every law of one byte below is a case of this
+-- a class that has all letters or none has a byte exactly where it has the byte in lower case: every law of one byte below but the last is a case of this
 lower-class : (f : ℕ → Bool) (x : Bool) → ((b : ℕ) → isLetter b ≡ true → f b ≡ x) → (b : ℕ) → f (lower b) ≡ f b
 unfolding lower
 lower-class f x all b = go (leb 65 b && leb b 90) refl

@@ -12,14 +12,15 @@ use Rattle.text.proofs.Tests.{no-case, or-case}
 use Rattle.text.proofs.SameTexts.{same-eq}
 use Rattle.terms.specs.declared.Mode.the-variants.{Out}
 use Rattle.terms.specs.Signs.{Sign, raws, signs}
-use Rattle.terms.proofs.ByteCases.{out-case, grave-first}
 use Rattle.terms.proofs.SignBytes.{raws-signs}
 use Rattle.words.specs.declared.Kind.{Kind}
 use Rattle.words.specs.declared.Kind.the-variants.{Mere, Keep, Level, Place, Entries}
 use Rattle.words.specs.Words.{lower, lowered, allName, kindOf}
+use Rattle.words.proofs.Folding.{lowered-again}
 use Rattle.words.proofs.WordLaws.{names-either, verb-either, option-either}
 use Rattle.forms.specs.Forms.{starts, hasEq, isKeep, isLevel, propertyOf, topicOf}
 use Rattle.forms.specs.Targets.{targetOf}
+use Rattle.forms.proofs.ValueLaws.{starts-byte}
 use Rattle.reading.specs.declared.Phase.{Phase}
 use Rattle.reading.specs.declared.Phase.the-variants.{First, Options, Waits, Rest}
 use Rattle.reading.specs.declared.State.{State}
@@ -35,7 +36,7 @@ abbrev isEither : Decision → Bool
 isEither (refuses n) = false
 isEither (takes i) = inEitherCase i
 
--- not where no part that it may be taken as is one
+-- no, where every part that it may be taken as stays exact
 made-exact : {A : Type 0} (n : ℕ) (o : Option A) (f : A → Item) → ((a : A) → inEitherCase (f a) ≡ false) → isEither (orNo n o f) ≡ false
 made-exact n none f k = refl
 made-exact n (some a) f k = k a
@@ -44,7 +45,7 @@ both-exact : (x : Bool) (d e : Decision) → isEither d ≡ false → isEither e
 both-exact true d e p q = p
 both-exact false d e p q = q
 
--- a property, a topic and a target are none
+-- a property, a topic and a target stay exact
 module _ (help : Bool) (count : ℕ) (t : List Sign) where
   property-exact : isEither (decideProperty help count t) ≡ false
   unfolding decideProperty
@@ -56,18 +57,16 @@ module _ (help : Bool) (count : ℕ) (t : List Sign) where
 
 -- ---- what a decision on such a term asks
 
--- a term starts with a bare byte where that is its first byte, but for a GRAVE
-starts-byte : (n : ℕ) → eqb 96 n ≡ false → (b : ℕ) (s : List ℕ) → starts n (signs Out (b ∷ s)) ≡ eqb b n
-unfolding signs
-starts-byte n e b s =
-    let is : (k : ℕ) → eqb b k ≡ true → eqb k n ≡ eqb b n = λ k p. ap (λ (c : ℕ). eqb c n) (sym (eqb-true b k p)) in
-    out-case (λ g m. starts n (g ++ signs m s) ≡ eqb b n) b (λ p. grave-first (λ z. starts n z ≡ eqb b n) (λ r. is 96 p) (λ c r. sym e ∙ is 96 p) s) (λ _ q. is 34 q) (λ _ _. refl)
-
 -- `-` is no letter
 starts-lowered : (s : List ℕ) → starts 45 (signs Out (lowered s)) ≡ starts 45 (signs Out s)
 unfolding lowered signs
 starts-lowered [] = refl
-starts-lowered (b ∷ s) = starts-byte 45 refl (lower b) (lowered s) ∙ lower-byte 45 refl b ∙ sym (starts-byte 45 refl b s)
+starts-lowered (b ∷ s) = starts-byte 45 (lower b) (lowered s) refl ∙ lower-byte 45 refl b ∙ sym (starts-byte 45 b s refl)
+
+-- a level is one in lower case, and nothing else becomes one
+pub level-lowered : (s : List ℕ) → isLevel (lowered s) ≡ isLevel s
+unfolding isLevel isKeep
+level-lowered s = rw (decimal-lowered 4294967295 s, names-either allName (lowered s) s (lowered-again s))
 
 -- two texts that differ in the case of letters alone are judged alike
 module _ (x y : List ℕ) (folds : lowered x ≡ lowered y) where
@@ -84,8 +83,7 @@ module _ (x y : List ℕ) (folds : lowered x ≡ lowered y) where
   option-folds seen = rw (raws-signs x, raws-signs y, option-either (drop 1 x) (drop 1 y) (lowered-drop 1 x ∙ ap (drop 1) folds ∙ sym (lowered-drop 1 y)))
 
   level-folds : argumentBy Level (signs Out x) ≡ argumentBy Level (signs Out y)
-  unfolding isLevel isKeep
-  level-folds = rw (raws-signs x, raws-signs y, folded isKeep (decimal-lowered 4294967295) x y folds, names-either allName x y folds, folds)
+  level-folds = rw (raws-signs x, raws-signs y, folded isLevel level-lowered x y folds, folds)
 
   -- of arguments, level's alone
   argument-folds : (d : Kind) → isLevelKind d ≡ true → argumentBy d (signs Out x) ≡ argumentBy d (signs Out y)

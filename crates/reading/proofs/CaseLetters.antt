@@ -12,7 +12,7 @@ use Rattle.text.specs.Lists.{anyOf, upTo, past, onto, parts, isNil, given, ever
 use Rattle.text.proofs.Tests.{and-l, and-r, or-in-l, or-in-r, or-case, either, no-case}
 use Rattle.text.proofs.AllAny.{any-split, nil-is}
 use Rattle.text.proofs.Options.{given-some}
-use Rattle.text.proofs.SameTexts.{same-eq, same-refl}
+use Rattle.text.proofs.SameTexts.{same-eq, eq-same}
 use Rattle.terms.specs.declared.Mode.the-variants.{Out}
 use Rattle.terms.specs.Signs.{Sign, bare, escaped, quote, quoted, quotedEscaped, signs, raw, raws, standsFor, stands, isBare}
 use Rattle.terms.proofs.SignBytes.{raws-signs}
@@ -243,7 +243,7 @@ pub taken-same : (x y : List ℕ) → lowered x ≡ lowered y → (s : State) (i
     → inEitherCase i || sameBytes x y ≡ true
 taken-same x y folds s i d e =
     either (inEitherCase i) (or-in-l (inEitherCase i) (sameBytes x y))
-    (λ n. or-in-r (inEitherCase i) (sameBytes x y) (ap (sameBytes x) (sym (told x y folds (own x d n ∙ sym (own y e n)))) ∙ same-refl x))
+    (λ n. or-in-r (inEitherCase i) (sameBytes x y) (eq-same x y (told x y folds (own x d n ∙ sym (own y e n)))))
   where
     own : (z : List ℕ) → decide s (signs Out z) ≡ takes i → inEitherCase i ≡ false → letters z ≡ itemLetters i
     own z h n = ap letters (sym (raws-signs z)) ∙ part-letters s (signs Out z) i h n

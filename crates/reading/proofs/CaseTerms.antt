@@ -3,7 +3,7 @@ use Prim.Native.Nat.{ℕ, _+_}
 use mathlib.Core.Path.{_≡_, refl, sym, ap, _∙_}
 use mathlib.Core.List.{List, [], _∷_, map, cons-eq-cons, cons≢nil}
 use mathlib.Core.Bool.{true}
-use lib.ListN.{take, drop}
+use lib.ListN.{drop}
 use Rattle.text.specs.Bytes.{printable}
 use Rattle.text.specs.Lists.{runLen, walk}
 use Rattle.terms.specs.declared.Mode.{Mode}
@@ -18,7 +18,7 @@ use Rattle.terms.proofs.NextTerm.{terms-some, terms-none}
 use Rattle.words.specs.Words.{lower, lowered}
 use Rattle.words.proofs.Folding.{lowered-length}
 use Rattle.reading.specs.declared.Span.{Span}
-use Rattle.reading.specs.Records.{span}
+use Rattle.reading.specs.Records.{span, partAt}
 use Rattle.reading.proofs.CaseBytes.{lower-byte, lower-printable, folded, lowered-drop, run-lowered}
 
 -- ---- a line in lower case is scanned as the line is: no byte that a scan looks for is a letter
@@ -93,7 +93,7 @@ open-lowered line = rw (lowered-length line, end-lowered Out line, opened-lowere
 
 -- the term of a line that stands at a place
 abbrev pub termIn : List ℕ → Span → Term
-termIn line p = record { start = p .at; text = signs Out (take (p .len) (drop (p .at) line)) }
+termIn line p = record { start = p .at; text = signs Out (partAt line p) }
 
 module _ (a b : List ℕ) (folds : lowered a ≡ lowered b) where
   -- what a scan finds in the first from a place on, it finds in the second
@@ -101,21 +101,21 @@ module _ (a b : List ℕ) (folds : lowered a ≡ lowered b) where
   same-term at f p = sym p ∙ folded (λ l. termAt l at) (term-lowered at) a b folds
 
   -- the places of the terms from a place on, in both lines
-  pub record Places (at : ℕ) (ts : List Term) : Type 0 where
+  pub record Spans (at : ℕ) (ts : List Term) : Type 0 where
     pub places : List Span
     pub here : ts ≡ map (termIn a) places
     pub there : termsFrom at true (signs Out (drop at b)) ≡ map (termIn b) places
 
   -- term by term: a scan of the second finds each term where a scan of the first does
-  places-from : (at : ℕ) (ts : List Term) → termsFrom at true (signs Out (drop at a)) ≡ ts → Places at ts
+  places-from : (at : ℕ) (ts : List Term) → termsFrom at true (signs Out (drop at a)) ≡ ts → Spans at ts
   places-from at [] e = go (termAt a at) refl
     where
-      go : (f : Found) → termAt a at ≡ f → Places at []
+      go : (f : Found) → termAt a at ≡ f → Spans at []
       go found.None p = record { places = []; here = refl; there = terms-none b at (same-term at found.None p) }
       go (found.Term i n) p = absurd (cons≢nil (sym (terms-some a at i n (sym p)) ∙ e))
   places-from at (t ∷ ts) e = go (termAt a at) refl (λ i. places-from i ts)
     where
-      go : (f : Found) → termAt a at ≡ f → ((i : ℕ) → termsFrom i true (signs Out (drop i a)) ≡ ts → Places i ts) → Places at (t ∷ ts)
+      go : (f : Found) → termAt a at ≡ f → ((i : ℕ) → termsFrom i true (signs Out (drop i a)) ≡ ts → Spans i ts) → Spans at (t ∷ ts)
       go found.None p ih = absurd (cons≢nil (sym (sym (terms-none a at (sym p)) ∙ e)))
       go (found.Term i n) p ih =
           let c = cons-eq-cons .0 (sym (terms-some a at i n (sym p)) ∙ e) in
@@ -128,7 +128,7 @@ module _ (a b : List ℕ) (folds : lowered a ≡ lowered b) where
           }
 
   -- BOTH LINES HAVE THEIR TERMS AT THE SAME PLACES
-  pub same-places : Places 0 (termsOf a)
+  pub same-places : Spans 0 (termsOf a)
   unfolding termsOf
   same-places = places-from 0 (termsOf a) refl
 

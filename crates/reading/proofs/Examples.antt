@@ -1,4 +1,4 @@
--- Document 01's thirteen lines, proved together by computation; and worked examples.
+-- Document 01's thirteen lines, `Show` as request a has it, proved together by computation; and worked examples.
 use Prim.Native.Nat.{ℕ}
 use Prim.Native.String.{String}
 use mathlib.Core.List.{List, [], _∷_, map}

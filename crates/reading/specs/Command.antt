@@ -15,7 +15,7 @@ use Rattle.forms.specs.Answers.{operatorOf}
 use Rattle.reading.specs.declared.Shown.{Shown}
 use Rattle.reading.specs.declared.Shown.the-variants as shown
 
--- an option's argument: a number is told by its digits, which have no leading zero, and `all`, in whichever case, by itself in lower case; a source or
+-- an option's argument: a number is told by its digits, which have no leading zero; `all` in lower case, whichever case the line has; a source or
 -- destination by the bytes that it stands for; display and output by their items
 pub data Argument : Type 0 where
   numeral : List ℕ → Argument

@@ -1,8 +1,8 @@
--- Letters in either case: which parts of a command a line may give so, where two lines have the same bytes elsewhere, and the letters of a text.
+-- Request a: which parts of a command may have letters in either case; whether two lines have the same bytes in all others ("Tags, names, values and
+-- `SESSION` stay exact"); and a text's letters.
 use Prim.Native.Nat.{ℕ}
 use mathlib.Core.List.{List, [], _∷_, flatMap}
 use mathlib.Core.Bool.{Bool, true, false, cond, _||_}
-use lib.ListN.{take, drop}
 use Rattle.text.specs.Bytes.{sameBytes, isLetter}
 use Rattle.text.specs.Lists.{allOf}
 use Rattle.words.specs.declared.Kind.{Kind}
@@ -10,7 +10,9 @@ use Rattle.words.specs.declared.Kind.the-variants.{Mere, Keep, Level, Place, En
 use Rattle.words.specs.Words.{kindOf}
 use Rattle.reading.specs.Command.{Item, verb, option, argument, target, prop}
 use Rattle.reading.specs.Reading.{Part}
+use Rattle.reading.specs.Records.{span, partAt}
 
+-- of the arguments, level's
 abbrev pub isLevelKind : Kind → Bool
 isLevelKind Mere = false
 isLevelKind Keep = false
@@ -28,9 +30,9 @@ inEitherCase (prop p) = false
 
 -- the bytes of a line that a part is
 abbrev pub partBytes : List ℕ → Part → List ℕ
-partBytes line p = take (p .len) (drop (p .start) line)
+partBytes line p = partAt line (span (p .start) (p .len))
 
--- have two lines the same bytes in every part that stays exact?
+-- have two lines the same bytes in each of these parts that stays exact?
 unfoldable pub exactIn : List Part → List ℕ → List ℕ → Bool
 exactIn ps a b = allOf (λ (p : Part). inEitherCase (p .item) || sameBytes (partBytes a p) (partBytes b p)) ps
 

@@ -1,4 +1,4 @@
--- Lines to check against: thirteen lines, each with its records; a refusal is shown as its record of kind 5.
+-- Lines to check against: document 01's thirteen, `Show` as request a has it, each with its records; a refusal is shown as its record of kind 5.
 use Prim.Native.Nat.{ℕ}
 use Prim.Native.String.{String}
 use mathlib.Core.List.{List, [], _∷_}

@@ -23,5 +23,8 @@ unfolding sameBytes
 same-refl [] = refl
 same-refl (x ∷ a) = simp (eq-eqb x x refl, same-refl a)
 
+pub eq-same : (a b : List ℕ) → a ≡ b → sameBytes a b ≡ true
+eq-same a b e = ap (sameBytes a) (sym e) ∙ same-refl a
+
 pub differ-eq : (a b : List ℕ) → sameBytes a b ≡ false → a ≡ b → ⊥
 differ-eq a b d e = no-case (sym (ap (λ (x : List ℕ). sameBytes x b) e ∙ same-refl b) ∙ d)

@@ -26,10 +26,10 @@ pub not-session :
 unfolding sessionName sameBytes bytes
 not-session = (refl, refl, refl, refl)
 
--- the bytes beside A to Z and a to z stay: `@` `[` GRAVE `{`; so does a byte past 7Fh
-pub stays : (lower 64 ≡ 64) × (lower 65 ≡ 97) × (lower 90 ≡ 122) × (lower 91 ≡ 91) × (lower 96 ≡ 96) × (lower 97 ≡ 97) × (lower 123 ≡ 123) × (lower 196 ≡ 196)
+-- `A` and `Z` go to `a` and `z`; the bytes beside the letters stay: `@` `[` GRAVE `{`; so do a lower case letter and a byte past 7Fh
+pub lowers : (lower 64 ≡ 64) × (lower 65 ≡ 97) × (lower 90 ≡ 122) × (lower 91 ≡ 91) × (lower 96 ≡ 96) × (lower 97 ≡ 97) × (lower 123 ≡ 123) × (lower 196 ≡ 196)
 unfolding lower
-stays = (refl, refl, refl, refl, refl, refl, refl, refl)
+lowers = (refl, refl, refl, refl, refl, refl, refl, refl)
 
 -- `show` in any case; `[D` and `{d` are no verb
 pub verbs :

@@ -2,7 +2,7 @@
 use Prim.Native.Nat.{ℕ, _+_, _<_, _≤_}
 use mathlib.Core.Path.{_≡_, refl, sym, ap, _∙_}
 use mathlib.Core.List.{List, [], _∷_}
-use mathlib.Core.Bool.{Bool, true, false, cond, _&&_}
+use mathlib.Core.Bool.{Bool, true}
 use native.Mathlib.Omega.{arith}
 use lib.ListN.{length, getD, length-map, List·getD-map}
 use lib.Dec.{leb}
@@ -27,7 +27,7 @@ pub lower-above : (b : ℕ) → 90 < b → lower b ≡ b
 unfolding lower
 lower-above b h = either (leb 65 b) (λ e. simp (e, lt-leb b 90 h)) (λ e. simp e)
 
-pub lower-again : (b : ℕ) → lower (lower b) ≡ lower b
+lower-again : (b : ℕ) → lower (lower b) ≡ lower b
 lower-again b =
     either (leb 65 b)
     (λ e.
@@ -58,7 +58,7 @@ unfolding lowered
 lowered-again [] = refl
 lowered-again (b ∷ s) = rw (lower-again b, lowered-again s)
 
--- a text of bytes that stay is itself; so are lower case letters and digits
+-- a text of bytes that stay is itself in lower case; so is one of lower case letters, and one of digits
 lowered-kept : (f : ℕ → Bool) → ((b : ℕ) → f b ≡ true → lower b ≡ b) → (s : List ℕ) → allOf f s ≡ true → lowered s ≡ s
 unfolding lowered allOf
 lowered-kept f k [] e = refl

@@ -17,7 +17,7 @@ use Rattle.text.proofs.SameTexts.{same-eq, same-refl}
 use Rattle.text.proofs.Scans.{same-length, all-at}
 use Rattle.words.specs.declared.Kind.{Kind}
 use Rattle.words.specs.declared.Kind.the-variants.{Mere, Keep, Level, Place, Entries}
-use Rattle.words.specs.Words.{verbNames, longNames, shortNames, lower, lowered, names, find, or, verbOf, optionOf, verbName, optionName, shortName, kinds, kindOf}
+use Rattle.words.specs.Words.{verbNames, longNames, shortNames, lowered, names, find, or, verbOf, optionOf, verbName, optionName, shortName, kinds, kindOf}
 use Rattle.words.specs.Rows.{findOf}
 use Rattle.words.specs.Names.{isLower, takesArgument, isMere}
 use Rattle.words.proofs.Folding.{lowered-length, lowered-nil, lowered-same}
@@ -25,7 +25,7 @@ use Rattle.words.proofs.Folding.{lowered-length, lowered-nil, lowered-s
 -- ---- a search among names
 
 -- a name of another length names nothing here
-pub names-length : (name s : List ℕ) → (length s ≡ length name → ⊥) → names name s ≡ false
+names-length : (name s : List ℕ) → (length s ≡ length name → ⊥) → names name s ≡ false
 unfolding names
 names-length name s h =
     ap (λ (b : Bool). not (isNil name) && b) (same-length (lowered s) name (λ e. h (sym (lowered-length s) ∙ e))) ∙ and-false (not (isNil name))
@@ -35,7 +35,7 @@ pub names-either : (n s r : List ℕ) → lowered s ≡ lowered r → names n s 
 unfolding names
 names-either n s r e = ap (λ (t : List ℕ). not (isNil n) && sameBytes t n) e
 
-pub find-either : (k : ℕ) (ns : List (List ℕ)) (s r : List ℕ) → lowered s ≡ lowered r → find k ns s ≡ find k ns r
+find-either : (k : ℕ) (ns : List (List ℕ)) (s r : List ℕ) → lowered s ≡ lowered r → find k ns s ≡ find k ns r
 unfolding find
 find-either k [] s r e = refl
 find-either k (n ∷ ns) s r e = rw (names-either n s r e, find-either (suc k) ns s r e)
@@ -58,15 +58,23 @@ no-verb s a b c d e f =
     let out : (n : ℕ) → (length s ≡ n → ⊥) → eqb n (length s) ≡ false = λ n h. ne-eqb n (length s) (λ p. h (sym p)) in
     find-of (length s) 1 verbNames s refl ∙ simp (out 2 a, out 3 b, out 4 c, out 5 d, out 6 e, out 7 f)
 
--- a name names a text that is the name in lower case
+-- a name names a text that is the name in lower case, and no other
+pub names-told : (n s : List ℕ) → names n s ≡ true → (lowered s ≡ n) × (isNil n ≡ false)
+unfolding names
+names-told n s e =
+    (same-eq (lowered s) n (and-r (not (isNil n)) (sameBytes (lowered s) n) e), not-true (isNil n) (and-l (not (isNil n)) (sameBytes (lowered s) n) e))
+
 names-lowered : (n s : List ℕ) → isNil n ≡ false → lowered s ≡ n → names n s ≡ true
 unfolding names
 names-lowered n s h e = and-in (not (isNil n)) (sameBytes (lowered s) n) (neg-in (isNil n) h) (ap (λ (t : List ℕ). sameBytes t n) e ∙ same-refl n)
 
--- no name but an empty one is a later one
+-- no name, empty ones apart, stands again later
+again : List ℕ → List ℕ → Bool
+again n m = not (isNil n) && sameBytes m n
+
 distinct : List (List ℕ) → Bool
 distinct [] = true
-distinct (n ∷ ns) = allOf (λ m. not (not (isNil n) && sameBytes m n)) ns && distinct ns
+distinct (n ∷ ns) = allOf (λ m. not (again n m)) ns && distinct ns
 
 there : (ns : List (List ℕ)) (i : ℕ) → isNil (getD ns i []) ≡ false → i < length ns
 there [] i h = no-case h
@@ -75,27 +83,27 @@ there (n ∷ ns) (suc i) h = let t = there ns i h in omega arith
 
 -- where no two names are the same, a text that is the name at a place in lower case is found there
 find-again : (k : ℕ) (ns : List (List ℕ)) (s : List ℕ) → distinct ns ≡ true → (i : ℕ) → isNil (getD ns i []) ≡ false → lowered s ≡ getD ns i [] → find k ns s ≡ some (k + i)
-unfolding find distinct names
+unfolding find distinct again names
 find-again k [] s d i h q = no-case h
 find-again k (n ∷ ns) s d zero h q = let e : k + 0 ≡ k = omega arith in rw (names-lowered n s h q) (ap some (sym e))
 find-again k (n ∷ ns) s d (suc i) h q =
     let e : k + suc i ≡ suc k + i = omega arith in
-    let f : List ℕ → Bool = λ m. not (isNil n) && sameBytes m n in
-    let o = not-true (f (getD ns i [])) (all-at (λ m. not (f m)) ns [] (and-l (allOf (λ m. not (f m)) ns) (distinct ns) d) i (there ns i h)) in
-    rw (ap f q ∙ o) (find-again (suc k) ns s (and-r (allOf (λ m. not (f m)) ns) (distinct ns) d) i h q ∙ ap some (sym e))
+    let other = allOf (λ m. not (again n m)) ns in
+    let o = not-true (again n (getD ns i [])) (all-at (λ m. not (again n m)) ns [] (and-l other (distinct ns) d) i (there ns i h)) in
+    rw (ap (again n) q ∙ o) (find-again (suc k) ns s (and-r other (distinct ns) d) i h q ∙ ap some (sym e))
 
 -- what is found is in lower case the name at its place, which is not empty
 find-name : (k : ℕ) (ns : List (List ℕ)) (s : List ℕ) (j : ℕ) → find k ns s ≡ some j
     → (k ≤ j) × (j < k + length ns) × (lowered s ≡ getD ns (j - k) []) × (isNil s ≡ false)
-unfolding find names
+unfolding find
 find-name k [] s j e = none-some j e
 find-name k (n ∷ ns) s j e =
-    either (not (isNil n) && sameBytes (lowered s) n)
+    either (names n s)
     (λ t.
     let q = Option·some-injective k j (rw t at e) in
     let z : j - k ≡ 0 = omega arith in
-    let p = same-eq (lowered s) n (and-r (not (isNil n)) (sameBytes (lowered s) n) t) in
-    (omega arith, omega arith, rw z p, sym (lowered-nil s) ∙ ap isNil p ∙ not-true (isNil n) (and-l (not (isNil n)) (sameBytes (lowered s) n) t)))
+    let p = names-told n s t in
+    (omega arith, omega arith, rw z (p .0), sym (lowered-nil s) ∙ ap isNil (p .0) ∙ p .1))
     (λ t.
     let r = find-name (suc k) ns s j (rw t at e) in
     let z : j - k ≡ suc (j - suc k) = omega (arith, r .0) in
@@ -122,7 +130,7 @@ unfolding allOf shape isWord verbNames bytes
 verbs-shape = refl
 
 verbs-distinct : distinct verbNames ≡ true
-unfolding allOf distinct sameBytes verbNames bytes
+unfolding allOf distinct again sameBytes verbNames bytes
 verbs-distinct = refl
 
 verbs-many : length verbNames ≡ 13
@@ -134,7 +142,7 @@ unfolding allOf shape isWord longNames bytes
 longs-shape = refl
 
 longs-distinct : distinct longNames ≡ true
-unfolding allOf distinct sameBytes longNames bytes
+unfolding allOf distinct again sameBytes longNames bytes
 longs-distinct = refl
 
 longs-many : length longNames ≡ 12
@@ -142,8 +150,12 @@ unfolding longNames
 longs-many = refl
 
 shorts-distinct : distinct shortNames ≡ true
-unfolding allOf distinct sameBytes shortNames bytes
+unfolding allOf distinct again sameBytes shortNames bytes
 shorts-distinct = refl
+
+shorts-lower : allOf (allOf isLower) shortNames ≡ true
+unfolding allOf shortNames bytes
+shorts-lower = refl
 
 shorts-many : length shortNames ≡ 12
 unfolding shortNames
@@ -289,6 +301,12 @@ option-by-name s k h = ⊎-elim long (short k)
 
 pub option-again : (k : ℕ) → 1 ≤ k → k ≤ 12 → optionOf (optionName k) ≡ some k
 option-again k a b = let f = option-shape k a b in option-by-name (optionName k) k (f .0) (inl (lowered-same (optionName k) (f .1)))
+
+pub option-short-again : (k : ℕ) → isNil (shortName k) ≡ false → optionOf (shortName k) ≡ some k
+unfolding shortName
+option-short-again zero h = no-case h
+option-short-again (suc i) h =
+    option-by-name (getD shortNames i []) (suc i) h (inr (lowered-same (getD shortNames i []) (all-at (allOf isLower) shortNames [] shorts-lower i (there shortNames i h))))
 
 -- and nothing else is
 pub option-only-name : (s : List ℕ) (k : ℕ) → optionOf s ≡ some k

@@ -1,4 +1,4 @@
--- The command, 1 and 2: verbs and options by name and by number; and the kinds of record with the length of their bodies.
+-- The command, 1 and 2, with request a of document 02: verbs and options by name and by number; and the kinds of record with the length of their bodies.
 use Prim.Native.Nat.{ℕ, suc, _+_}
 use mathlib.Core.List.{List, [], _∷_, map}
 use mathlib.Core.Bool.{Bool, cond, not, _&&_}
@@ -32,7 +32,7 @@ lower b = cond (leb 65 b && leb b 90) (b + 32) b
 unfoldable pub lowered : List ℕ → List ℕ
 lowered s = map lower s
 
--- does this name name that text? The text's raw bytes, its letters in either case, are the name, which is in lower case; an empty name names nothing.
+-- does this name name that text? A name is in lower case; it names a text whose raw bytes, letters in either case, are the name. An empty name names nothing.
 unfoldable pub names : List ℕ → List ℕ → Bool
 names n s = not (isNil n) && sameBytes (lowered s) n
 

@@ -3,9 +3,6 @@
 use clp_face as face;
 use clp_vectors::{Answer, Refused, REQUEST_A};
 
-/// The cases of request a.
-const LINES: usize = 104;
-
 /// What a call writes at the start of lent room, in the terms of the cases; the rest of the room stays as it was.
 fn answer(size: usize, call: impl Fn(&mut [u8]) -> face::Answer) -> Answer {
     let mut room = vec![0xaa; size];
@@ -29,5 +26,4 @@ fn lines_of_request_a() {
         let writing = answer(face::CANONICAL_BYTES, |room| face::canonical(&line, room));
         assert_eq!(writing, case.writing(2), "{}: {}", case.at, line.escape_ascii());
     }
-    assert_eq!(cases.len(), LINES);
 }

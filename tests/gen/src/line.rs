@@ -1,5 +1,5 @@
-//! Lines: valid by the grammar with names in any case, damaged, noise, at the edges of every limit,
-//! and next to names in another case.
+//! Lines: valid by the grammar with verbs, option names and `all` in any case, damaged, noise, at
+//! the edges of every limit, and near misses of a word in another case.
 
 use std::ops::Range;
 
@@ -147,6 +147,15 @@ pub fn valid_line(rng: &mut Rng) -> Vec<u8> {
     made_line(rng).0
 }
 
+/// The same with its verb, option names and level's `all` in upper case: the benchmark's too.
+pub fn loud_line(rng: &mut Rng) -> Vec<u8> {
+    let (mut line, names) = made_line(rng);
+    for name in names {
+        line[name].make_ascii_uppercase();
+    }
+    line
+}
+
 /// A line made by the grammar, mostly with its names in lower case, otherwise each in any case.
 pub fn shouted_line(rng: &mut Rng) -> Vec<u8> {
     let (mut line, names) = made_line(rng);
@@ -208,7 +217,7 @@ fn made_line(rng: &mut Rng) -> (Vec<u8>, Places) {
     (line, names)
 }
 
-/// A line that is next to one with a shouted name: another byte in a letter's place, or another
+/// A near miss of a shouted verb, option name or `all`: another byte in a letter's place; or another
 /// case where bytes are exact.
 pub fn near_miss(rng: &mut Rng) -> Vec<u8> {
     if rng.percent(40) {

@@ -5,16 +5,18 @@
 
 #![forbid(unsafe_code)]
 
-/// A file of cases.
+/// A file of cases, and how many it has.
 pub struct Vectors {
     pub name: &'static str,
     pub text: &'static str,
+    pub count: usize,
 }
 
 /// Document 02, request a: line, reading, canonical writing.
 pub const REQUEST_A: Vectors = Vectors {
     name: "02-a.tsv",
     text: include_str!("../02-a.tsv"),
+    count: 104,
 };
 
 /// What a case expects: bytes, or a refusal.
@@ -34,7 +36,7 @@ pub struct Case {
 }
 
 impl Vectors {
-    /// All cases of a file that has so many columns.
+    /// All cases of a file that has so many columns; a file with more or fewer cases than said stops the test.
     pub fn cases(&self, columns: usize) -> Vec<Case> {
         let ended = self.text.strip_suffix('\n');
         let lines = ended.unwrap_or_else(|| panic!("{}: the last line has no end", self.name));
@@ -45,7 +47,9 @@ impl Vectors {
             assert_eq!(line.starts_with('#'), number == 1, "{at}: {line}");
             Case { at, cells }
         });
-        all.skip(1).collect()
+        let cases: Vec<Case> = all.skip(1).collect();
+        assert_eq!(cases.len(), self.count, "{}: so many cases", self.name);
+        cases
     }
 }
 
@@ -293,7 +297,7 @@ mod tests {
     fn complaint(text: &'static str) -> String {
         let read = move || {
             let name = "file";
-            let cases = Vectors { name, text }.cases(2);
+            let cases = Vectors { name, text, count: 1 }.cases(2);
             let answers = cases.iter().map(|case| (case.bytes(0), case.reading(1)));
             answers.count()
         };
@@ -305,7 +309,9 @@ mod tests {
     fn what_cannot_be_read_is_told_with_its_line() {
         let good = "# line\treading\nb'cd'\tverb 1\n";
         let name = "file";
-        assert_eq!(Vectors { name, text: good }.cases(2).len(), 1);
+        let file = |count| Vectors { name, text: good, count };
+        assert_eq!(file(1).cases(2).len(), 1);
+        assert!(std::panic::catch_unwind(|| file(2).cases(2)).is_err());
         let bad = [
             ("", "file: the last line has no end"),
             ("# line\treading\nb'cd'\tverb 1", "file: the last line"),
