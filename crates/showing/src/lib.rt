@@ -1,7 +1,8 @@
 // What the programs that run cases share: printing, and the way through an input of lines or of cases. Nothing here is a rule of the protocol.
+ghost use mathlib.Core.Path.{_≡_};
 ghost use Prim.Native.Nat.{_+_, _-_, _≤_, min};
 ghost use lib.ListN.{length};
-ghost use Rattle.showing.specs.Ways.{PartIs, TwoIs};
+ghost use Rattle.showing.specs.Ways.{lineLen, onwardTo, PartIs, TwoIs};
 use libc::STDOUT_FILENO;
 use text::Answer;
 
@@ -129,6 +130,7 @@ pub fn list_runs(list: &[u16]) {
 
 // How many bytes stand from a place on before the next LF, or before the end.
 pub fn line_len(input: &[u8], at: usize) -> usize
+    ensures { λ r. ⌜ r ≡ lineLen (now (input .entry)) at ⌝ }
     ensures { λ r. ⌜ r ≤ length (now (input .entry)) - at ⌝ }
 {
     let mut i = at;
@@ -189,6 +191,7 @@ pub fn two_at(input: &[u8], at: usize, skip: usize) -> usize
 
 // Where to go on in a part of `len` bytes after a call that used some from a place on: its end where the call used none, or more than are left.
 pub fn onward(at: usize, used: usize, len: usize) -> usize
+    ensures { λ r. ⌜ r ≡ onwardTo at used len ⌝ }
     ensures { λ r. ⌜ r ≤ len ⌝ }
     ensures { λ r. ⌜ min (at + 1) len ≤ r ⌝ }
 {

@@ -9,7 +9,7 @@ part-at-requires : tie.Need-part-at-requires
 part-at-requires c κs = search needs
 
 returns : tie.Need-returns
-returns c = two-missing _ _ _ (c .before .part-at .ensures .cuts (c .if1 .taken))
+returns c = two-missing _ _ _ (c .before .part-at .ensures .cuts (c .if1 .taken) .0)
 
 shared-slice-read-pair : tie.Need-shared-slice-read-pair
 shared-slice-read-pair c =
