@@ -13,10 +13,11 @@ use Rattle.canonical.specs.Canonical.{writeArgument, writeEntry, writeIt
 use Rattle.forms.specs.Forms.{Entry, Property, hasEq, isName, propertyOf, starts, topicOf}
 use Rattle.forms.specs.Targets.{Target, targetOf}
 use Rattle.reading.specs.Command.{Argument, Item, argument, argumentBy, items, numeral, option, prop, target, text, verb}
-use Rattle.reading.specs.Reading.{commandOf, decide, decideAfter, decideArgument, decideIn, decideOption, decideProperty, decideTarget, decideVerb, takes}
+use Rattle.reading.specs.Reading.{isHelp, commandOf, decide, decideAfter, decideArgument, decideIn, decideOption, decideProperty, decideTarget, decideVerb, takes}
 use Rattle.reading.specs.declared.Phase.{Phase}
 use Rattle.reading.specs.declared.Phase.the-variants.{First, Options, Rest, Waits}
 use Rattle.reading.specs.declared.State.{State}
+use Rattle.support.specs.Table15.{allowed}
 use Rattle.terms.specs.Signs.{Sign, bare, raws, stands, bares}
 use Rattle.text.specs.Bytes.{isLetter, isWord, printable}
 use Rattle.text.specs.Lists.{allOf, between, each, isNil}
@@ -37,8 +38,8 @@ use Rattle.text.proofs.AllAny.{map-some}
 use Rattle.terms.proofs.Bares.{raws-bares}
 use Rattle.reading.proofs.TakenCases.{taken-case, argument-from}
 
-pub record Again (p : Phase) (help : Bool) (seen : List Bool) (count : ℕ) (i : Item) : Type 0 where
-  pub again : decideIn p help seen count (writeItem i) ≡ takes i
+pub record Again (p : Phase) (v : ℕ) (seen : List Bool) (count : ℕ) (i : Item) : Type 0 where
+  pub again : decideIn p v seen count (writeItem i) ≡ takes i
   pub isWord : word (writeItem i) ≡ true
 
 word-in : (w : List Sign) → isNil w ≡ false → good false w ≡ true → word w ≡ true
@@ -50,9 +51,9 @@ bare-word s n e = word-in (bares s) (map-some bare s n) (written-good s e)
 
 -- ---- the verb
 
-verb-back : (help : Bool) (seen : List Bool) (count n : ℕ) (s : List ℕ) → verbOf s ≡ some n → Again First help seen count (verb n)
+verb-back : (v : ℕ) (seen : List Bool) (count n : ℕ) (s : List ℕ) → verbOf s ≡ some n → Again First v seen count (verb n)
 unfolding decideVerb
-verb-back help seen count n s p =
+verb-back v seen count n s p =
     let o = verb-ok s n p in
     record {
       again = simp (raws-bares (verbName n), o .again);
@@ -65,12 +66,12 @@ dash-good : (s : List ℕ) → allOf okWritten s ≡ true → word (bare 45 ∷ 
 unfolding good
 dash-good s e = written-good s e
 
-option-back : (help : Bool) (seen : List Bool) (count n : ℕ) (s : List ℕ) → optionOf s ≡ some n → getD seen n false ≡ false → Again Options help seen count (option n)
+option-back : (v : ℕ) (seen : List Bool) (count n : ℕ) (s : List ℕ) → optionOf s ≡ some n → allowed v n ≡ true → getD seen n false ≡ false → Again Options v seen count (option n)
 unfolding decideOption raws
-option-back help seen count n s p q =
+option-back v seen count n s p a q =
     let o = option-ok s n p in
     record {
-      again = simp (raws-bares (optionName n), o .again, q);
+      again = simp (raws-bares (optionName n), o .again, a, q);
       isWord = dash-good (optionName n) (o .bytesOk);
     }
 
@@ -122,10 +123,10 @@ argument-ok k t a h c =
     number-back Level s (level-ok (raws t) e) (simp (raws-bares s, level-lowered (raws t) ∙ e, lowered-again (raws t)))) (λ e. place-back (stands t) (stands-some t some′ e) (stands-clean t clean))
     (λ es e. let o = entries-ok t es e clean in entries-back es (o .0) (o .1)) k a h
 
-argument-back : (help : Bool) (seen : List Bool) (count n : ℕ) (t : List Sign) (a : Argument) → argumentBy (kindOf n) t ≡ some a → cleanText t ≡ true
-    → Again (Waits n) help seen count (argument n a)
+argument-back : (v : ℕ) (seen : List Bool) (count n : ℕ) (t : List Sign) (a : Argument) → argumentBy (kindOf n) t ≡ some a → cleanText t ≡ true
+    → Again (Waits n) v seen count (argument n a)
 unfolding decideArgument
-argument-back help seen count n t a h k = let o = argument-ok (kindOf n) t a h k in record { again = rw (o .dash, o .again); isWord = o .isWord }
+argument-back v seen count n t a h k = let o = argument-ok (kindOf n) t a h k in record { again = rw (o .dash, o .again); isWord = o .isWord }
 
 -- ---- properties
 
@@ -147,14 +148,14 @@ property-back false count t p k c h = let o = property-ok t p h k in record { ok
 property-word : (p : Property) → okProperty p ≡ true → word (writeProperty p) ≡ true
 property-word p k = word-in (writeProperty p) (property-some p k) (property-good p k)
 
-rest-back : (help : Bool) (seen : List Bool) (count : ℕ) (t : List Sign) (p : Property) → PropertyBack help count t p → Again Rest help seen count (prop p)
-rest-back help seen count t p b = record { again = rw (property-dash p (b .ok)) (b .again); isWord = property-word p (b .ok) }
+rest-back : (v : ℕ) (seen : List Bool) (count : ℕ) (t : List Sign) (p : Property) → PropertyBack (isHelp v) count t p → Again Rest v seen count (prop p)
+rest-back v seen count t p b = record { again = rw (property-dash p (b .ok)) (b .again); isWord = property-word p (b .ok) }
 
 -- ---- the target, or the first property
 
-target-back : (help : Bool) (seen : List Bool) (count : ℕ) (s : List ℕ) (g : Target) → help ≡ false → targetOf s ≡ some g → Again Options help seen count (target g)
+target-back : (v : ℕ) (seen : List Bool) (count : ℕ) (s : List ℕ) (g : Target) → isHelp v ≡ false → targetOf s ≡ some g → Again Options v seen count (target g)
 unfolding decideTarget decideAfter
-target-back help seen count s g f h =
+target-back v seen count s g f h =
     let o = target-ok s g h in
     let w = writeTarget g in
     record {
@@ -162,26 +163,29 @@ target-back help seen count s g f h =
       isWord = bare-word w (o .isSome) (o .bytesOk);
     }
 
-first-back : (help : Bool) (seen : List Bool) (count : ℕ) (t : List Sign) (p : Property) → (not help && not (hasEq t)) ≡ false → PropertyBack help count t p → Again Options help seen count (prop p)
+first-back : (v : ℕ) (seen : List Bool) (count : ℕ) (t : List Sign) (p : Property) → (not (isHelp v) && not (hasEq t)) ≡ false → PropertyBack (isHelp v) count t p → Again Options v seen count (prop p)
 unfolding decideAfter
-first-back true seen count t p n b = record { again = rw (property-dash p (b .ok)) (b .again); isWord = property-word p (b .ok) }
-first-back false seen count t p n b =
-    record { again = rw (property-dash p (b .ok), b .has refl (not-false (hasEq t) n)) (b .again); isWord = property-word p (b .ok) }
+first-back v seen count t p n b = record { again = rw (property-dash p (b .ok)) (go (isHelp v) n b); isWord = property-word p (b .ok) }
+  where
+    go : (help : Bool) → (not help && not (hasEq t)) ≡ false → PropertyBack help count t p
+        → cond (not help && not (hasEq (writeProperty p))) (decideTarget (writeProperty p)) (decideProperty help count (writeProperty p)) ≡ takes (prop p)
+    go true n b = b .again
+    go false n b = rw (b .has refl (not-false (hasEq t) n)) (b .again)
 
 -- ---- one term
 
-again-in : (p : Phase) (help : Bool) (seen : List Bool) (count : ℕ) (t : List Sign) (i : Item) → decideIn p help seen count t ≡ takes i → cleanText t ≡ true
-    → Again p help seen count i
-again-in p help seen count t i h k =
+again-in : (p : Phase) (v : ℕ) (seen : List Bool) (count : ℕ) (t : List Sign) (i : Item) → decideIn p v seen count t ≡ takes i → cleanText t ≡ true
+    → Again p v seen count i
+again-in p v seen count t i h k =
     let c = and-r (not (isNil t)) (allOf cleanSign t) k in
-    taken-case (λ ph j. Again ph help seen count j) help seen count t (λ n e. verb-back help seen count n (raws t) e) (λ n e f. option-back help seen count n (drop 1 (raws t)) e f)
-    (λ n a d e. argument-back help seen count n t a e k) (λ g f n e. target-back help seen count (raws t) g f e)
-    (λ q n m e. first-back help seen count t q n (property-back help count t q c m e)) (λ q m e. rest-back help seen count t q (property-back help count t q c m e)) p i h
+    taken-case (λ ph j. Again ph v seen count j) v seen count t (λ n e. verb-back v seen count n (raws t) e) (λ n e a f. option-back v seen count n (drop 1 (raws t)) e a f)
+    (λ n a d e. argument-back v seen count n t a e k) (λ g f n e. target-back v seen count (raws t) g f e)
+    (λ q n m e. first-back v seen count t q n (property-back (isHelp v) count t q c m e)) (λ q m e. rest-back v seen count t q (property-back (isHelp v) count t q c m e)) p i h
 
 pub one-term : (s : State) (t : List Sign) (i : Item) → decide s t ≡ takes i → cleanText t ≡ true → Back s i
 unfolding decide
 one-term s t i h k =
-    let b = again-in (s .phase) (s .help) (s .seen) (s .count) t i h k in
+    let b = again-in (s .phase) (s .verb) (s .seen) (s .count) t i h k in
     record { again = b .again; isWord = b .isWord }
 
 pub read-back : (line : List ℕ) (c : List Item) → commandOf line ≡ some c → length (writing c) ≤ 1024 → commandOf (writing c) ≡ some c

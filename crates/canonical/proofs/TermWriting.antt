@@ -24,7 +24,7 @@ use Rattle.forms.specs.Forms.{starts, isMark, isLevel, isPlace, Property, prope
 use Rattle.forms.specs.Targets.{isSeparator, Target, targetOf}
 use Rattle.reading.specs.declared.State.{State}
 use Rattle.reading.specs.Command.{Argument, argumentBy, Item, shownOf}
-use Rattle.reading.specs.Reading.{takes, decide}
+use Rattle.reading.specs.Reading.{isHelp, takes, decide}
 use Rattle.canonical.specs.Canonical.{writeProperty, three, escapes, writeMore, writePlace, writeArgument, writeTarget, writeItem}
 use Rattle.canonical.specs.Written.{graved, gravedAll, textsIn, leadsDash, dashGrave, placeIn, slash, slashed, levelIn, argumentIn, written}
 use Rattle.canonical.proofs.Places.{level-told}
@@ -154,7 +154,7 @@ property-part false s p h = ap raws (sym (property-written (signs Out s) p h))
 pub term-written : (s : List ℕ) (i : Item) (t : State) → decide t (signs Out s) ≡ takes i → raws (writeItem i) ≡ written (shownOf i) s
 unfolding decide raws
 term-written s i t h =
-    taken-case (λ ph j. raws (writeItem j) ≡ written (shownOf j) s) (t .help) (t .seen) (t .count) (signs Out s) (λ n e. raws-bares (verbName n))
-    (λ n e f. ap (λ (y : List ℕ). 45 ∷ y) (raws-bares (optionName n))) (λ n a d e. argument-written (kindOf n) s a d e)
-    (λ g f n e. raws-bares (writeTarget g) ∙ target-written s g (ap targetOf (sym (raws-signs s)) ∙ e)) (λ p n c e. property-part (t .help) s p e) (λ p c e. property-part (t .help) s p e)
+    taken-case (λ ph j. raws (writeItem j) ≡ written (shownOf j) s) (t .verb) (t .seen) (t .count) (signs Out s) (λ n e. raws-bares (verbName n))
+    (λ n e a f. ap (λ (y : List ℕ). 45 ∷ y) (raws-bares (optionName n))) (λ n a d e. argument-written (kindOf n) s a d e)
+    (λ g f n e. raws-bares (writeTarget g) ∙ target-written s g (ap targetOf (sym (raws-signs s)) ∙ e)) (λ p n c e. property-part (isHelp (t .verb)) s p e) (λ p c e. property-part (isHelp (t .verb)) s p e)
     (t .phase) i h

@@ -63,8 +63,8 @@ level-low t k a e =
 item-low : (s : State) (t : List Sign) (i : Item) → decide s t ≡ takes i → inEitherCase i ≡ true → isLowered (writeItem i)
 unfolding decide
 item-low s t i d =
-    taken-case (λ _ j. inEitherCase j ≡ true → isLowered (writeItem j)) (s .help) (s .seen) (s .count) t (λ k e _. verb-low (raws t) k e)
-    (λ k e _ _. option-low (drop 1 (raws t)) k e) (λ k a _ e n. level-low t (kindOf k) a e n) (λ _ _ _ _ n. no-case (sym n)) (λ _ _ _ _ n. no-case (sym n))
+    taken-case (λ _ j. inEitherCase j ≡ true → isLowered (writeItem j)) (s .verb) (s .seen) (s .count) t (λ k e _. verb-low (raws t) k e)
+    (λ k e _ _ _. option-low (drop 1 (raws t)) k e) (λ k a _ e n. level-low t (kindOf k) a e n) (λ _ _ _ _ n. no-case (sym n)) (λ _ _ _ _ n. no-case (sym n))
     (λ _ _ _ n. no-case (sym n)) (s .phase) i d
 
 -- ---- every other part is written with the letters of its term

@@ -25,7 +25,7 @@ use Rattle.reading.specs.declared.Phase.{Phase}
 use Rattle.reading.specs.declared.Phase.the-variants.{First, Options, Waits, Rest}
 use Rattle.reading.specs.declared.State.{State}
 use Rattle.reading.specs.Command.{argumentBy, Item, argument, target, prop}
-use Rattle.reading.specs.Reading.{Decision, refuses, takes, orNo, decideVerb, decideOption, decideArgument, decideTarget, decideProperty, decideAfter, decideIn, decide}
+use Rattle.reading.specs.Reading.{Decision, refuses, takes, orNo, isHelp, decideVerb, decideOption, decideArgument, decideTarget, decideProperty, decideAfter, decideIn, decide}
 use Rattle.reading.specs.EitherCase.{isLevelKind, inEitherCase}
 use Rattle.reading.proofs.CaseBytes.{lower-byte, folded, lowered-drop, decimal-lowered}
 
@@ -78,9 +78,9 @@ module _ (x y : List ℕ) (folds : lowered x ≡ lowered y) where
   unfolding decideVerb
   verb-folds = rw (raws-signs x, raws-signs y, verb-either x y folds)
 
-  option-folds : (seen : List Bool) → decideOption seen (signs Out x) ≡ decideOption seen (signs Out y)
+  option-folds : (v : ℕ) (seen : List Bool) → decideOption v seen (signs Out x) ≡ decideOption v seen (signs Out y)
   unfolding decideOption
-  option-folds seen = rw (raws-signs x, raws-signs y, option-either (drop 1 x) (drop 1 y) (lowered-drop 1 x ∙ ap (drop 1) folds ∙ sym (lowered-drop 1 y)))
+  option-folds v seen = rw (raws-signs x, raws-signs y, option-either (drop 1 x) (drop 1 y) (lowered-drop 1 x ∙ ap (drop 1) folds ∙ sym (lowered-drop 1 y)))
 
   level-folds : argumentBy Level (signs Out x) ≡ argumentBy Level (signs Out y)
   level-folds = rw (raws-signs x, raws-signs y, folded isLevel level-lowered x y folds, folds)
@@ -94,27 +94,27 @@ module _ (x y : List ℕ) (folds : lowered x ≡ lowered y) where
   argument-folds Entries e = no-case (sym e)
 
   -- the same decision, phase by phase
-  decided-in : (p : Phase) (help : Bool) (seen : List Bool) (count : ℕ) → isEither (decideIn p help seen count (signs Out x)) ≡ true
-      → decideIn p help seen count (signs Out x) ≡ decideIn p help seen count (signs Out y)
+  decided-in : (p : Phase) (v : ℕ) (seen : List Bool) (count : ℕ) → isEither (decideIn p v seen count (signs Out x)) ≡ true
+      → decideIn p v seen count (signs Out x) ≡ decideIn p v seen count (signs Out y)
   unfolding decideArgument
-  decided-in First help seen count e = verb-folds
-  decided-in Options help seen count e = go (starts 45 (signs Out x)) refl
+  decided-in First v seen count e = verb-folds
+  decided-in Options v seen count e = go (starts 45 (signs Out x)) refl
     where
-      go : (z : Bool) → starts 45 (signs Out x) ≡ z → decideIn Options help seen count (signs Out x) ≡ decideIn Options help seen count (signs Out y)
-      go true p = rw (p, sym starts-folds ∙ p) (option-folds seen)
-      go false p = no-case (sym (rw p at e) ∙ after-exact help count (signs Out x))
-  decided-in (Waits k) help seen count e = go (starts 45 (signs Out x)) (isLevelKind (kindOf k)) refl refl
+      go : (z : Bool) → starts 45 (signs Out x) ≡ z → decideIn Options v seen count (signs Out x) ≡ decideIn Options v seen count (signs Out y)
+      go true p = rw (p, sym starts-folds ∙ p) (option-folds v seen)
+      go false p = no-case (sym (rw p at e) ∙ after-exact (isHelp v) count (signs Out x))
+  decided-in (Waits k) v seen count e = go (starts 45 (signs Out x)) (isLevelKind (kindOf k)) refl refl
     where
       go : (z w : Bool) → starts 45 (signs Out x) ≡ z → isLevelKind (kindOf k) ≡ w → decideArgument k (signs Out x) ≡ decideArgument k (signs Out y)
       go true w p q = rw (p, sym starts-folds ∙ p)
       go false true p q = rw (p, sym starts-folds ∙ p, argument-folds (kindOf k) q)
       go false false p q = no-case (sym (rw p at e) ∙ made-exact 10 (argumentBy (kindOf k) (signs Out x)) (argument k) (λ _. q))
-  decided-in Rest help seen count e =
-      no-case (sym e ∙ both-exact (starts 45 (signs Out x)) (refuses 11) (decideProperty help count (signs Out x)) refl (property-exact help count (signs Out x)))
+  decided-in Rest v seen count e =
+      no-case (sym e ∙ both-exact (starts 45 (signs Out x)) (refuses 11) (decideProperty (isHelp v) count (signs Out x)) refl (property-exact (isHelp v) count (signs Out x)))
 
   -- a text that stands where a part was taken from is taken as it too, where it is the same or the part is in either case
   pub taken-alike : (s : State) (i : Item) → decide s (signs Out x) ≡ takes i → inEitherCase i || sameBytes x y ≡ true → decide s (signs Out y) ≡ takes i
   unfolding decide
   taken-alike s i d e =
-      or-case (inEitherCase i) (sameBytes x y) e (λ p. sym (decided-in (s .phase) (s .help) (s .seen) (s .count) (ap isEither d ∙ p)) ∙ d)
+      or-case (inEitherCase i) (sameBytes x y) e (λ p. sym (decided-in (s .phase) (s .verb) (s .seen) (s .count) (ap isEither d ∙ p)) ∙ d)
       (λ p. ap (λ (z : List ℕ). decide s (signs Out z)) (sym (same-eq x y p)) ∙ d)

@@ -23,7 +23,7 @@ use Rattle.forms.specs.Targets.{isSeparator, Target, session, path, targetOf}
 use Rattle.forms.proofs.FormCases.{value-from, said-from, namedOf, named-from, as-property, as-entry, topic-from, target-from}
 use Rattle.reading.specs.declared.State.{State}
 use Rattle.reading.specs.Command.{argumentBy, Argument, numeral, text, items, Item, verb, option, argument, target, prop}
-use Rattle.reading.specs.Reading.{takes, decide}
+use Rattle.reading.specs.Reading.{isHelp, takes, decide}
 use Rattle.reading.specs.EitherCase.{isLevelKind, inEitherCase, letter, letters}
 use Rattle.reading.proofs.TakenCases.{taken-case, argument-from}
 use Rattle.reading.proofs.CaseBytes.{told}
@@ -234,9 +234,9 @@ property-letters false t q e = raws-spelt t ∙ property-spelt t q e
 pub part-letters : (s : State) (t : List Sign) (i : Item) → decide s t ≡ takes i → inEitherCase i ≡ false → letters (raws t) ≡ itemLetters i
 unfolding decide
 part-letters s t i d =
-    taken-case (λ _ j. inEitherCase j ≡ false → letters (raws t) ≡ itemLetters j) (s .help) (s .seen) (s .count) t (λ k _ n. no-case n) (λ k _ _ n. no-case n)
-    (λ k a _ e n. argument-spelt t (kindOf k) a e n) (λ g _ _ e _. target-letters (raws t) g e) (λ q _ _ e _. property-letters (s .help) t q e)
-    (λ q _ e _. property-letters (s .help) t q e) (s .phase) i d
+    taken-case (λ _ j. inEitherCase j ≡ false → letters (raws t) ≡ itemLetters j) (s .verb) (s .seen) (s .count) t (λ k _ n. no-case n) (λ k _ _ _ n. no-case n)
+    (λ k a _ e n. argument-spelt t (kindOf k) a e n) (λ g _ _ e _. target-letters (raws t) g e) (λ q _ _ e _. property-letters (isHelp (s .verb)) t q e)
+    (λ q _ e _. property-letters (isHelp (s .verb)) t q e) (s .phase) i d
 
 -- so two texts that differ in the case of letters alone, taken as one part, are the same, or the part is in either case
 pub taken-same : (x y : List ℕ) → lowered x ≡ lowered y → (s : State) (i : Item) → decide s (signs Out x) ≡ takes i → decide s (signs Out y) ≡ takes i

@@ -2,7 +2,7 @@
 use Prim.Native.Nat.{ℕ, _-_, _≤_, _<_}
 use mathlib.Core.Path.{_≡_, refl, sym, ap, _∙_}
 use mathlib.Core.List.{List, [], _∷_}
-use mathlib.Core.Bool.{Bool, true, false, cond}
+use mathlib.Core.Bool.{Bool, true, false, cond, not}
 use mathlib.Core.Option.{Option, none, some}
 use native.Mathlib.Omega.{arith}
 use lib.ListN.{length, take, drop, getD}
@@ -19,6 +19,7 @@ use Rattle.words.specs.declared.Kind.{Kind}
 use Rattle.words.specs.declared.Kind.the-variants.{Mere, Keep, Level, Place, Entries}
 use Rattle.words.specs.Tables.{known}
 use Rattle.words.specs.Words.{lower, lowered, names, find, longNames, shortNames, verbOf, optionOf, kindOf}
+use Rattle.support.specs.Table15.{allowed}
 use Rattle.forms.specs.declared.Where.{Where}
 use Rattle.forms.specs.declared.Where.the-variants as where′
 use Rattle.forms.specs.Forms.{starts, Entry, isKeep, isLevel, isPlace, entriesOf, Property, propertyOf, topicOf}
@@ -29,7 +30,7 @@ use Rattle.reading.specs.declared.Shown.the-variants as shown
 use Rattle.reading.specs.declared.Decided.{Decided}
 use Rattle.reading.specs.declared.Decided.the-variants.{Takes, Refuses}
 use Rattle.reading.specs.Command.{argumentBy, Argument, items, verb, option, argument, target, prop}
-use Rattle.reading.specs.Reading.{refuses, takes, orNo, notSeen, decideVerb, decideOption, decideArgument, decideTarget, decideProperty, decideAfter, decideIn}
+use Rattle.reading.specs.Reading.{refuses, takes, orNo, isHelp, newOption, decideVerb, decideOption, decideArgument, decideTarget, decideProperty, decideAfter, decideIn}
 use Rattle.reading.specs.Cursor.{decidedOf}
 use Rattle.reading.specs.Shown.{byShape, argumentIf}
 
@@ -54,33 +55,34 @@ verb-decided t = rw (raws-signs t) (verb-known (verbOf t))
 
 -- ---- an option
 
-abbrev pub byOption : List Bool → Known → Decided
-byOption seen (Is n) = cond (getD seen n false) (Refuses 8) (Takes (shown.Option n))
-byOption seen Unknown = Refuses 7
+abbrev pub byOption : ℕ → List Bool → Known → Decided
+byOption v seen (Is n) = cond (not (allowed v n)) (Refuses 20) (cond (getD seen n false) (Refuses 8) (Takes (shown.Option n)))
+byOption v seen Unknown = Refuses 7
 
-option-known : (seen : List Bool) (o : Option ℕ) → byOption seen (known o) ≡ decidedOf (notSeen seen o)
-option-known seen none = refl
-option-known seen (some n) = go (getD seen n false)
+option-known : (v : ℕ) (seen : List Bool) (o : Option ℕ) → byOption v seen (known o) ≡ decidedOf (newOption v seen o)
+option-known v seen none = refl
+option-known v seen (some n) = go (allowed v n) (getD seen n false)
   where
-    go : (x : Bool) → cond x (Refuses 8) (Takes (shown.Option n)) ≡ decidedOf (cond x (refuses 8) (takes (option n)))
-    go true = refl
-    go false = refl
+    go : (a x : Bool) → cond (not a) (Refuses 20) (cond x (Refuses 8) (Takes (shown.Option n))) ≡ decidedOf (cond (not a) (refuses 20) (cond x (refuses 8) (takes (option n))))
+    go true true = refl
+    go true false = refl
+    go false x = refl
 
-pub option-decided : (seen : List Bool) (t : List ℕ) → byOption seen (known (optionOf (drop 1 t))) ≡ decidedOf (decideOption seen (signs Out t))
+pub option-decided : (v : ℕ) (seen : List Bool) (t : List ℕ) → byOption v seen (known (optionOf (drop 1 t))) ≡ decidedOf (decideOption v seen (signs Out t))
 unfolding decideOption
-option-decided seen t = rw (raws-signs t) (option-known seen (optionOf (drop 1 t)))
+option-decided v seen t = rw (raws-signs t) (option-known v seen (optionOf (drop 1 t)))
 
 -- the name is what follows the first byte
-pub option-cite : (seen : List Bool) (t : List ℕ) (k : Known) → k ≡ known (optionOf (take (length t - 1) (drop 1 t)))
-    → byOption seen k ≡ decidedOf (decideOption seen (signs Out t))
-option-cite seen t k e =
-    ap (byOption seen) (e ∙ ap (λ (s : List ℕ). known (optionOf s)) (part-from t 1)) ∙ option-decided seen t
+pub option-cite : (v : ℕ) (seen : List Bool) (t : List ℕ) (k : Known) → k ≡ known (optionOf (take (length t - 1) (drop 1 t)))
+    → byOption v seen k ≡ decidedOf (decideOption v seen (signs Out t))
+option-cite v seen t k e =
+    ap (byOption v seen) (e ∙ ap (λ (s : List ℕ). known (optionOf s)) (part-from t 1)) ∙ option-decided v seen t
 
 -- no name is empty
-pub option-empty : (seen : List Bool) (t : List ℕ) → length t ≡ 0 → Refuses 7 ≡ decidedOf (decideOption seen (signs Out t))
+pub option-empty : (v : ℕ) (seen : List Bool) (t : List ℕ) → length t ≡ 0 → Refuses 7 ≡ decidedOf (decideOption v seen (signs Out t))
 unfolding decideOption signs raws optionOf find longNames shortNames names lowered lower bytes sameBytes
-option-empty seen [] e = refl
-option-empty seen (b ∷ t) e = absurd (omega arith)
+option-empty v seen [] e = refl
+option-empty v seen (b ∷ t) e = absurd (omega arith)
 
 -- ---- an argument
 
@@ -165,15 +167,15 @@ module _ (help : Bool) (count : ℕ) (t : List ℕ) where
   unfolding decideAfter hasBare
   after-target e h = rw (e, h)
 
-module _ (help : Bool) (seen : List Bool) (count : ℕ) (t : List ℕ) where
-  pub in-option : startsBare 45 t ≡ true → decideOption seen (signs Out t) ≡ decideIn Options help seen count (signs Out t)
+module _ (v : ℕ) (seen : List Bool) (count : ℕ) (t : List ℕ) where
+  pub in-option : startsBare 45 t ≡ true → decideOption v seen (signs Out t) ≡ decideIn Options v seen count (signs Out t)
   in-option e = rw (sym (starts-bytes 45 t) ∙ e)
 
-  pub in-after : startsBare 45 t ≡ false → decideAfter help count (signs Out t) ≡ decideIn Options help seen count (signs Out t)
+  pub in-after : startsBare 45 t ≡ false → decideAfter (isHelp v) count (signs Out t) ≡ decideIn Options v seen count (signs Out t)
   in-after e = rw (sym (starts-bytes 45 t) ∙ e)
 
-  pub in-dash : startsBare 45 t ≡ true → refuses 11 ≡ decideIn Rest help seen count (signs Out t)
+  pub in-dash : startsBare 45 t ≡ true → refuses 11 ≡ decideIn Rest v seen count (signs Out t)
   in-dash e = rw (sym (starts-bytes 45 t) ∙ e)
 
-  pub in-property : startsBare 45 t ≡ false → decideProperty help count (signs Out t) ≡ decideIn Rest help seen count (signs Out t)
+  pub in-property : startsBare 45 t ≡ false → decideProperty (isHelp v) count (signs Out t) ≡ decideIn Rest v seen count (signs Out t)
   in-property e = rw (sym (starts-bytes 45 t) ∙ e)

@@ -1,4 +1,4 @@
--- Document 01's thirteen lines, `Show` as request a has it, proved together by computation; and worked examples.
+-- Document 01's thirteen lines, `Show` as request a has it, proved together by computation; request b's lines alike; and worked examples.
 use Prim.Native.Nat.{ℕ}
 use Prim.Native.String.{String}
 use mathlib.Core.List.{List, [], _∷_, map}
@@ -14,31 +14,37 @@ use Rattle.terms.specs.Signs.{twelve, two, after, gives, signs, raws, stands}
 use Rattle.terms.specs.Terms.{termsFrom, termsOf}
 use Rattle.terms.specs.Rows.{longFlaw, oddFlaw, endMode, openedAt, openFlaw, manyFrom, manyFlaw, lexicalOf}
 use Rattle.words.specs.Words.{verbNames, longNames, shortNames, lower, lowered, names, find, verbOf, optionOf, kinds, kindOf, allName, sessionName}
+use Rattle.support.specs.Table15.{rows, cellOf, allowed}
 use Rattle.forms.specs.Forms.{isName, isKeep, isLevel, isPlace, isPlainSign, endsQuote, isText, itemsIn, isList, listOf, textOf, valueOf, entryOf, entryParts, entriesOf, saidOf, propertyOf, topicOf}
 use Rattle.forms.specs.Targets.{tagLen, isNumbered, isStarred, isSegment, areSegments, segmentsOf, pathOf, targetOf}
 use Rattle.reading.specs.Reading.{decideVerb, decideOption, decideArgument, decideTarget, decideProperty, decideAfter, decide, walkTerms, readingOf}
 use Rattle.reading.specs.Records.{span, recordsOf, listedIn, refusalRecord, cutRecord, targetSpan, targetIn, targetPart}
 use Rattle.reading.specs.Cursor.{firstCursor}
 use Rattle.reading.specs.declared.Phase.the-variants.{First}
-use Rattle.reading.specs.Lines.{lines}
+use Rattle.reading.specs.Lines.{lines, linesByVerb}
 
 -- of each line with its answer: the line's records are that answer
 pub lines-answers : map (λ (l : String × List ℕ). listedIn (readingOf (bytes (l .0)))) lines ≡ map (λ (l : String × List ℕ). l .1) lines
-unfolding lines bytes oneOf sameBytes isWord allOf anyOf upTo past runLen parts walk every valueFrom isDecimal twelve two after gives signs raws stands termsFrom termsOf longFlaw oddFlaw endMode openedAt openFlaw manyFrom manyFlaw lexicalOf verbNames longNames shortNames names lowered lower find verbOf optionOf kinds kindOf allName sessionName isName isKeep isLevel isPlace isPlainSign endsQuote isText itemsIn isList listOf textOf valueOf entryOf entryParts entriesOf saidOf propertyOf topicOf tagLen isNumbered isStarred isSegment areSegments segmentsOf pathOf targetOf decideVerb decideOption decideArgument decideTarget decideProperty decideAfter decide walkTerms readingOf recordsOf
+unfolding lines bytes oneOf sameBytes isWord allOf anyOf upTo past runLen parts walk every valueFrom isDecimal twelve two after gives signs raws stands termsFrom termsOf longFlaw oddFlaw endMode openedAt openFlaw manyFrom manyFlaw lexicalOf verbNames longNames shortNames names lowered lower find verbOf optionOf kinds kindOf allName sessionName isName isKeep isLevel isPlace isPlainSign endsQuote isText itemsIn isList listOf textOf valueOf entryOf entryParts entriesOf saidOf propertyOf topicOf tagLen isNumbered isStarred isSegment areSegments segmentsOf pathOf targetOf allowed cellOf rows decideVerb decideOption decideArgument decideTarget decideProperty decideAfter decide walkTerms readingOf recordsOf
 lines-answers = refl
 
+-- the same of request b's lines
+pub lines-by-verb : map (λ (l : String × List ℕ). listedIn (readingOf (bytes (l .0)))) linesByVerb ≡ map (λ (l : String × List ℕ). l .1) linesByVerb
+unfolding linesByVerb bytes oneOf sameBytes isWord allOf anyOf upTo past runLen parts walk every valueFrom isDecimal twelve two after gives signs raws stands termsFrom termsOf longFlaw oddFlaw endMode openedAt openFlaw manyFrom manyFlaw lexicalOf verbNames longNames shortNames names lowered lower find verbOf optionOf kinds kindOf allName sessionName isName isKeep isLevel isPlace isPlainSign endsQuote isText itemsIn isList listOf textOf valueOf entryOf entryParts entriesOf saidOf propertyOf topicOf tagLen isNumbered isStarred isSegment areSegments segmentsOf pathOf targetOf allowed cellOf rows decideVerb decideOption decideArgument decideTarget decideProperty decideAfter decide walkTerms readingOf recordsOf
+lines-by-verb = refl
+
 -- before a line's first term nothing is passed, seen or counted
-pub first-cursor : (firstCursor .at ≡ 0) × (firstCursor .state .phase ≡ First) × (firstCursor .state .seen ≡ replicate 13 false) × (firstCursor .state .count ≡ 0)
-first-cursor = (refl, refl, refl, refl)
+pub first-cursor : (firstCursor .at ≡ 0) × (firstCursor .state .phase ≡ First) × (firstCursor .state .verb ≡ 0) × (firstCursor .state .seen ≡ replicate 13 false) × (firstCursor .state .count ≡ 0)
+first-cursor = (refl, refl, refl, refl, refl)
 
 -- where the target of a line stands
 pub target-there : targetIn (readingOf (bytes "show /system1/cpu4")) ≡ span 5 13
-unfolding targetSpan bytes oneOf sameBytes isWord allOf anyOf upTo past runLen parts walk every valueFrom isDecimal twelve two after gives signs raws stands termsFrom termsOf longFlaw oddFlaw endMode openedAt openFlaw manyFrom manyFlaw lexicalOf verbNames longNames shortNames names lowered lower find verbOf optionOf kinds kindOf allName sessionName isName isKeep isLevel isPlace isPlainSign endsQuote isText itemsIn isList listOf textOf valueOf entryOf entryParts entriesOf saidOf propertyOf topicOf tagLen isNumbered isStarred isSegment areSegments segmentsOf pathOf targetOf decideVerb decideOption decideArgument decideTarget decideProperty decideAfter decide walkTerms readingOf
+unfolding targetSpan bytes oneOf sameBytes isWord allOf anyOf upTo past runLen parts walk every valueFrom isDecimal twelve two after gives signs raws stands termsFrom termsOf longFlaw oddFlaw endMode openedAt openFlaw manyFrom manyFlaw lexicalOf verbNames longNames shortNames names lowered lower find verbOf optionOf kinds kindOf allName sessionName isName isKeep isLevel isPlace isPlainSign endsQuote isText itemsIn isList listOf textOf valueOf entryOf entryParts entriesOf saidOf propertyOf topicOf tagLen isNumbered isStarred isSegment areSegments segmentsOf pathOf targetOf allowed cellOf rows decideVerb decideOption decideArgument decideTarget decideProperty decideAfter decide walkTerms readingOf
 target-there = refl
 
 -- a line without a target, and lines that are refused at the target and after it, give no part
 pub no-target : (targetPart (bytes "show") ≡ []) × (targetPart (bytes "cd /system1/") ≡ []) × (targetPart (bytes "reset /system1 -f") ≡ [])
-unfolding targetPart targetSpan bytes oneOf sameBytes isWord allOf anyOf upTo past runLen parts walk every valueFrom isDecimal twelve two after gives signs raws stands termsFrom termsOf longFlaw oddFlaw endMode openedAt openFlaw manyFrom manyFlaw lexicalOf verbNames longNames shortNames names lowered lower find verbOf optionOf kinds kindOf allName sessionName isName isKeep isLevel isPlace isPlainSign endsQuote isText itemsIn isList listOf textOf valueOf entryOf entryParts entriesOf saidOf propertyOf topicOf tagLen isNumbered isStarred isSegment areSegments segmentsOf pathOf targetOf decideVerb decideOption decideArgument decideTarget decideProperty decideAfter decide walkTerms readingOf
+unfolding targetPart targetSpan bytes oneOf sameBytes isWord allOf anyOf upTo past runLen parts walk every valueFrom isDecimal twelve two after gives signs raws stands termsFrom termsOf longFlaw oddFlaw endMode openedAt openFlaw manyFrom manyFlaw lexicalOf verbNames longNames shortNames names lowered lower find verbOf optionOf kinds kindOf allName sessionName isName isKeep isLevel isPlace isPlainSign endsQuote isText itemsIn isList listOf textOf valueOf entryOf entryParts entriesOf saidOf propertyOf topicOf tagLen isNumbered isStarred isSegment areSegments segmentsOf pathOf targetOf allowed cellOf rows decideVerb decideOption decideArgument decideTarget decideProperty decideAfter decide walkTerms readingOf
 no-target = (refl, refl, refl)
 
 -- the records that a lister makes, in room of one byte too few and of the size

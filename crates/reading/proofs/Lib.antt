@@ -16,3 +16,4 @@ pub mod CaseDecisions
 pub mod CaseLetters
 pub mod EitherCase
 pub mod Only
+pub mod Excluded

@@ -22,7 +22,7 @@ use Rattle.reading.specs.declared.Phase.{Phase}
 use Rattle.reading.specs.declared.State.{State}
 use Rattle.reading.specs.declared.Span.{Span}
 use Rattle.reading.specs.Command.{Item, option, prop, shownOf}
-use Rattle.reading.specs.Reading.{begin, takes, decideIn, decide, next, Part, read, partOf, walkTerms, readingOf}
+use Rattle.reading.specs.Reading.{begin, isHelp, takes, decideIn, decide, next, Part, read, partOf, walkTerms, readingOf}
 use Rattle.reading.specs.Records.{span, optionFields, valueSpan, fieldsOf}
 use Rattle.reading.specs.Inside.{partsInOrder, spansIn, spansOf, isWithin, namesItself, isInside}
 use Rattle.reading.proofs.TakenCases.{taken-case}
@@ -98,15 +98,15 @@ property-fits : (help : Bool) (t : List Sign) (q : Property) → cond help (topi
 property-fits true t q e = prop-fits t q (topic-size t q e)
 property-fits false t q e = prop-fits t q (property-size t q e)
 
-part-fits : (p : Phase) (help : Bool) (seen : List Bool) (count : ℕ) (t : List Sign) (i : Item) → decideIn p help seen count t ≡ takes i → Fits t i
+part-fits : (p : Phase) (v : ℕ) (seen : List Bool) (count : ℕ) (t : List Sign) (i : Item) → decideIn p v seen count t ≡ takes i → Fits t i
 unfolding Fits allOf
-part-fits p help seen count t i h =
-    taken-case (λ ph j. Fits t j) help seen count t (λ k e a. refl) (λ k e n. option-fits t k) (λ k x d e a. simp (whole-fits t a)) (λ g x y e a. simp (whole-fits t a))
-    (λ q x c e. property-fits help t q e) (λ q c e. property-fits help t q e) p i h
+part-fits p v seen count t i h =
+    taken-case (λ ph j. Fits t j) v seen count t (λ k e a. refl) (λ k e _ n. option-fits t k) (λ k x d e a. simp (whole-fits t a)) (λ g x y e a. simp (whole-fits t a))
+    (λ q x c e. property-fits (isHelp v) t q e) (λ q c e. property-fits (isHelp v) t q e) p i h
 
 one-names : (s : State) (t : Term) (i : Item) → decide s (t .text) ≡ takes i → namesItself (partOf t i) ≡ true
 unfolding decide Fits
-one-names s t i h = part-fits (s .phase) (s .help) (s .seen) (s .count) (t .text) i h (t .start)
+one-names s t i h = part-fits (s .phase) (s .verb) (s .seen) (s .count) (t .text) i h (t .start)
 
 walk-names : (n : ℕ) (s : State) (ts : List Term) (ps : List Part) → walkTerms n s ts ≡ read ps → allOf namesItself ps ≡ true
 unfolding walkTerms allOf

@@ -15,6 +15,7 @@ use Rattle.terms.specs.Signs.{Sign, raws}
 use Rattle.terms.specs.Terms.{Term, termsOf}
 use Rattle.terms.specs.Rows.{lexicalOf}
 use Rattle.words.specs.Words.{verbOf, optionOf, kindOf}
+use Rattle.support.specs.Table15.{allowed}
 use Rattle.forms.specs.Forms.{starts, hasEq, propertyOf, topicOf}
 use Rattle.forms.specs.Targets.{targetOf}
 use Rattle.forms.specs.Answers.{isSome}
@@ -22,8 +23,8 @@ use Rattle.reading.specs.declared.Phase.{Phase}
 use Rattle.reading.specs.declared.Phase.the-variants.{First, Options, Waits, Rest}
 use Rattle.reading.specs.declared.State.{State}
 use Rattle.reading.specs.Command.{argumentBy, Item, verb, option, argument, target, prop}
-use Rattle.reading.specs.Reading.{begin, Decision, refuses, takes, orNo, notSeen, decideVerb, decideOption, decideArgument, decideTarget, decideProperty, decideAfter, decideIn, decide, next, Part, Reading, refusal, read, adding, ended, partOf, walkTerms, readingOf}
-use Rattle.reading.specs.Order.{isSeen, isWaits, holdsIn, holds, order, isFirstOf, statePast, Refused, byLine, byTerm, byEnd}
+use Rattle.reading.specs.Reading.{begin, Decision, refuses, takes, orNo, isHelp, newOption, decideVerb, decideOption, decideArgument, decideTarget, decideProperty, decideAfter, decideIn, decide, next, Part, Reading, refusal, read, adding, ended, partOf, walkTerms, readingOf}
+use Rattle.reading.specs.Order.{isSeen, isExcluded, isWaits, holdsIn, holds, order, isFirstOf, statePast, Refused, byLine, byTerm, byEnd}
 
 -- ---- the first row of a list that holds
 
@@ -62,6 +63,10 @@ is-first f (j ∷ js) k h = go (eqb j k) refl (is-first f js k)
         let q : not (f j) && isFirstOf f js k ≡ true = rw d at h in
         rw (not-true (f j) (and-l (not (f j)) (isFirstOf f js k) q)) (ih (and-r (not (f j)) (isFirstOf f js k) q))
 
+-- the first row that holds does
+pub first-row : (f : ℕ → Bool) (js : List ℕ) (k : ℕ) → isFirstOf f js k ≡ true → f k ≡ true
+first-row f js k h = first-holds f js k (is-first f js k h)
+
 -- ---- one term: the number that it is refused by is the first row that holds
 
 abbrev refusedBy : Decision → Option ℕ
@@ -73,28 +78,29 @@ or-no : {A : Type 0} (n : ℕ) (o : Option A) (f : A → Item) → refusedBy (or
 or-no n none f = refl
 or-no n (some a) f = refl
 
-not-seen : (seen : List Bool) (o : Option ℕ) → refusedBy (notSeen seen o) ≡ cond (not (isSome o)) (some 7) (cond (isSeen seen o) (some 8) none)
-not-seen seen none = refl
-not-seen seen (some n) = go (getD seen n false)
+new-option : (v : ℕ) (seen : List Bool) (o : Option ℕ) → refusedBy (newOption v seen o) ≡ cond (not (isSome o)) (some 7) (cond (isExcluded v o) (some 20) (cond (isSeen seen o) (some 8) none))
+new-option v seen none = refl
+new-option v seen (some n) = go (not (allowed v n)) (getD seen n false)
   where
-    go : (x : Bool) → refusedBy (cond x (refuses 8) (takes (option n))) ≡ cond x (some 8) none
-    go true = refl
-    go false = refl
+    go : (a x : Bool) → refusedBy (cond a (refuses 20) (cond x (refuses 8) (takes (option n)))) ≡ cond a (some 20) (cond x (some 8) none)
+    go true x = refl
+    go false true = refl
+    go false false = refl
 
-module _ (help : Bool) (seen : List Bool) (count : ℕ) (t : List Sign) where
-  property-first : refusedBy (decideProperty help count t) ≡ cond (leb 32 count) (some 14) (cond (not (isSome (cond help (topicOf t) (propertyOf t)))) (some 13) none)
+module _ (v : ℕ) (seen : List Bool) (count : ℕ) (t : List Sign) where
+  property-first : refusedBy (decideProperty (isHelp v) count t) ≡ cond (leb 32 count) (some 14) (cond (not (isSome (cond (isHelp v) (topicOf t) (propertyOf t)))) (some 13) none)
   unfolding decideProperty
   property-first = go (leb 32 count)
     where
-      go : (x : Bool) → refusedBy (cond x (refuses 14) (orNo 13 (cond help (topicOf t) (propertyOf t)) prop)) ≡ cond x (some 14) (cond (not (isSome (cond help (topicOf t) (propertyOf t)))) (some 13) none)
+      go : (x : Bool) → refusedBy (cond x (refuses 14) (orNo 13 (cond (isHelp v) (topicOf t) (propertyOf t)) prop)) ≡ cond x (some 14) (cond (not (isSome (cond (isHelp v) (topicOf t) (propertyOf t)))) (some 13) none)
       go true = refl
-      go false = or-no 13 (cond help (topicOf t) (propertyOf t)) prop
+      go false = or-no 13 (cond (isHelp v) (topicOf t) (propertyOf t)) prop
 
-  in-first : refusedBy (decideIn First help seen count t) ≡ firstOf (holdsIn First help seen count t) order
+  in-first : refusedBy (decideIn First v seen count t) ≡ firstOf (holdsIn First v seen count t) order
   unfolding decideVerb firstOf order
   in-first = or-no 6 (verbOf (raws t)) verb
 
-  in-waits : (n : ℕ) → refusedBy (decideIn (Waits n) help seen count t) ≡ firstOf (holdsIn (Waits n) help seen count t) order
+  in-waits : (n : ℕ) → refusedBy (decideIn (Waits n) v seen count t) ≡ firstOf (holdsIn (Waits n) v seen count t) order
   unfolding decideArgument firstOf order
   in-waits n = go (starts 45 t)
     where
@@ -103,38 +109,39 @@ module _ (help : Bool) (seen : List Bool) (count : ℕ) (t : List Sign) where
       go true = refl
       go false = or-no 10 (argumentBy (kindOf n) t) (argument n)
 
-  in-rest : refusedBy (decideIn Rest help seen count t) ≡ firstOf (holdsIn Rest help seen count t) order
+  in-rest : refusedBy (decideIn Rest v seen count t) ≡ firstOf (holdsIn Rest v seen count t) order
   unfolding firstOf order
   in-rest = go (starts 45 t)
     where
-      go : (x : Bool) → refusedBy (cond x (refuses 11) (decideProperty help count t))
-          ≡ cond x (some 11) (cond (leb 32 count) (some 14) (cond (not (isSome (cond help (topicOf t) (propertyOf t)))) (some 13) none))
+      go : (x : Bool) → refusedBy (cond x (refuses 11) (decideProperty (isHelp v) count t))
+          ≡ cond x (some 11) (cond (leb 32 count) (some 14) (cond (not (isSome (cond (isHelp v) (topicOf t) (propertyOf t)))) (some 13) none))
       go true = refl
       go false = property-first
 
-  in-options : refusedBy (decideIn Options help seen count t) ≡ firstOf (holdsIn Options help seen count t) order
+  in-options : refusedBy (decideIn Options v seen count t) ≡ firstOf (holdsIn Options v seen count t) order
   unfolding firstOf order decideOption decideAfter decideTarget
-  in-options = go (starts 45 t) (not help && not (hasEq t))
+  in-options = go (starts 45 t) (not (isHelp v) && not (hasEq t))
     where
-      go : (x y : Bool) → refusedBy (cond x (notSeen seen (optionOf (drop 1 (raws t)))) (cond y (orNo 12 (targetOf (raws t)) target) (decideProperty help count t)))
+      go : (x y : Bool) → refusedBy (cond x (newOption v seen (optionOf (drop 1 (raws t)))) (cond y (orNo 12 (targetOf (raws t)) target) (decideProperty (isHelp v) count t)))
           ≡ cond (x && not (isSome (optionOf (drop 1 (raws t))))) (some 7)
+          (cond (x && isExcluded v (optionOf (drop 1 (raws t)))) (some 20)
           (cond (x && isSeen seen (optionOf (drop 1 (raws t)))) (some 8)
           (cond ((not x && y) && not (isSome (targetOf (raws t)))) (some 12)
           (cond ((not x && not y) && leb 32 count) (some 14)
-          (cond ((not x && not y) && not (isSome (cond help (topicOf t) (propertyOf t)))) (some 13) none))))
-      go true y = not-seen seen (optionOf (drop 1 (raws t)))
+          (cond ((not x && not y) && not (isSome (cond (isHelp v) (topicOf t) (propertyOf t)))) (some 13) none)))))
+      go true y = new-option v seen (optionOf (drop 1 (raws t)))
       go false true = or-no 12 (targetOf (raws t)) target
       go false false = property-first
 
-by-phase : (p : Phase) (help : Bool) (seen : List Bool) (count : ℕ) (t : List Sign) → refusedBy (decideIn p help seen count t) ≡ firstOf (holdsIn p help seen count t) order
-by-phase First help seen count t = in-first help seen count t
-by-phase Options help seen count t = in-options help seen count t
-by-phase (Waits n) help seen count t = in-waits help seen count t n
-by-phase Rest help seen count t = in-rest help seen count t
+by-phase : (p : Phase) (v : ℕ) (seen : List Bool) (count : ℕ) (t : List Sign) → refusedBy (decideIn p v seen count t) ≡ firstOf (holdsIn p v seen count t) order
+by-phase First v seen count t = in-first v seen count t
+by-phase Options v seen count t = in-options v seen count t
+by-phase (Waits n) v seen count t = in-waits v seen count t n
+by-phase Rest v seen count t = in-rest v seen count t
 
 decided-first : (s : State) (t : List Sign) → refusedBy (decide s t) ≡ firstOf (holds s t) order
 unfolding decide holds
-decided-first s t = by-phase (s .phase) (s .help) (s .seen) (s .count) t
+decided-first s t = by-phase (s .phase) (s .verb) (s .seen) (s .count) t
 
 refused-by : (d : Decision) (k : ℕ) → refusedBy d ≡ some k → d ≡ refuses k
 refused-by (refuses j) k e = cc

@@ -67,12 +67,12 @@ option-room k e Place = refl
 option-room k e Entries = refl
 
 -- one part
-Room : Phase → Bool → List Bool → ℕ → Item → Type 0
-Room p help seen count i = (a n : ℕ) → length (recordOf (shownOf i) a n) + roomOf (next (state p help seen count) i) ≤ room p seen count
+Room : Phase → ℕ → List Bool → ℕ → Item → Type 0
+Room p v seen count i = (a n : ℕ) → length (recordOf (shownOf i) a n) + roomOf (next (state p v seen count) i) ≤ room p seen count
 
-option-part : (help : Bool) (seen : List Bool) (count k : ℕ) (s : List ℕ) → optionOf s ≡ some k → getD seen k false ≡ false → length seen ≡ 13 → Room Options help seen count (option k)
+option-part : (v : ℕ) (seen : List Bool) (count k : ℕ) (s : List ℕ) → optionOf s ≡ some k → getD seen k false ≡ false → length seen ≡ 13 → Room Options v seen count (option k)
 unfolding Room roomOf room
-option-part help seen count k s p q l a n =
+option-part v seen count k s p q l a n =
     let b = option-only-name s k p in
     let y = b .1 in
     let f = set-free-1 seen k (b .0) (omega arith) q in
@@ -80,15 +80,15 @@ option-part help seen count k s p q l a n =
     let five : phaseRoom Options ≡ 5 = unfold phaseRoom in refl in
     omega arith
 
-prop-room : (p : Phase) (help : Bool) (seen : List Bool) (count : ℕ) (q : Property) → count < 32 → Room p help seen count (prop q)
+prop-room : (p : Phase) (v : ℕ) (seen : List Bool) (count : ℕ) (q : Property) → count < 32 → Room p v seen count (prop q)
 unfolding Room roomOf room phaseRoom
-prop-room p help seen count q c a n = omega arith
+prop-room p v seen count q c a n = omega arith
 
-one-room : (p : Phase) (help : Bool) (seen : List Bool) (count : ℕ) (t : List Sign) (i : Item) → decideIn p help seen count t ≡ takes i → length seen ≡ 13 → Room p help seen count i
+one-room : (p : Phase) (v : ℕ) (seen : List Bool) (count : ℕ) (t : List Sign) (i : Item) → decideIn p v seen count t ≡ takes i → length seen ≡ 13 → Room p v seen count i
 unfolding Room roomOf room phaseRoom
-one-room p help seen count t i h l =
-    taken-case (λ ph j. Room ph help seen count j) help seen count t (λ k e a n. omega arith) (λ k e f. option-part help seen count k (drop 1 (raws t)) e f l)
-    (λ k x d e a n. omega arith) (λ g x y e a n. omega arith) (λ q x c e. prop-room Options help seen count q c) (λ q c e. prop-room Rest help seen count q c) p i h
+one-room p v seen count t i h l =
+    taken-case (λ ph j. Room ph v seen count j) v seen count t (λ k e a n. omega arith) (λ k e _ f. option-part v seen count k (drop 1 (raws t)) e f l)
+    (λ k x d e a n. omega arith) (λ g x y e a n. omega arith) (λ q x c e. prop-room Options v seen count q c) (λ q c e. prop-room Rest v seen count q c) p i h
 
 next-length : (s : State) (i : Item) → length (next s i .seen) ≡ length (s .seen)
 next-length s (verb n) = refl
@@ -106,7 +106,7 @@ walk-room n s (t ∷ ts) ps h l =
     put (k .item) (k .rest) (k .decided) (k .parts) r
   where
     one : (i : Item) → decide s (t .text) ≡ takes i → length (recordOf (shownOf i) (t .start) (length (raws (t .text)))) + roomOf (next s i) ≤ roomOf s
-    one i d = unfold decide Room roomOf in one-room (s .phase) (s .help) (s .seen) (s .count) (t .text) i d l (t .start) (length (raws (t .text)))
+    one i d = unfold decide Room roomOf in one-room (s .phase) (s .verb) (s .seen) (s .count) (t .text) i d l (t .start) (length (raws (t .text)))
 
     put : (i : Item) (qs : List Part) → decide s (t .text) ≡ takes i → ps ≡ partOf t i ∷ qs → length (recordsOf qs) ≤ roomOf (next s i) → length (recordsOf ps) ≤ roomOf s
     put i qs d e r =

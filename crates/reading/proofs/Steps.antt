@@ -31,7 +31,7 @@ use Rattle.reading.specs.declared.Offer as declared
 use Rattle.reading.specs.declared.Offer.the-variants as offer
 use Rattle.reading.specs.declared.Step.{Step}
 use Rattle.reading.specs.Command.{Item, verb, option, argument, target, prop, shownOf}
-use Rattle.reading.specs.Reading.{state, Decision, refuses, takes, decideIn, decide, next, Part, refusal, read, adding, ended, going, walkTerms}
+use Rattle.reading.specs.Reading.{state, isHelp, Decision, refuses, takes, decideIn, decide, next, Part, refusal, read, adding, ended, going, walkTerms}
 use Rattle.reading.specs.Cursor.{decidedOf, nextShown, cursor, step, offerOn, offerEnd, offerAt, offerOf, cursorAfter, stepOf, left}
 use Rattle.reading.specs.Shown.{nameSize, counted}
 use Rattle.reading.proofs.TakenCases.{taken-case}
@@ -77,14 +77,14 @@ took-prop help count t q c e = record { name = name-most (q .name) (named help e
     named true e = topic-name t q e
     named false e = property-name t q e
 
-took-in : (p : Phase) (help : Bool) (seen : List Bool) (count : ℕ) (t : List Sign) (i : Item) → decideIn p help seen count t ≡ takes i → Took count i
-took-in p help seen count t i h =
-    taken-case (λ ph j. Took count j) help seen count t (λ k e. took-other count (verb k) refl refl) (λ k e n. took-other count (option k) refl refl)
-    (λ k a d e. took-other count (argument k a) refl refl) (λ g x y e. took-other count (target g) refl refl) (λ q x c e. took-prop help count t q c e) (took-prop help count t) p i h
+took-in : (p : Phase) (v : ℕ) (seen : List Bool) (count : ℕ) (t : List Sign) (i : Item) → decideIn p v seen count t ≡ takes i → Took count i
+took-in p v seen count t i h =
+    taken-case (λ ph j. Took count j) v seen count t (λ k e. took-other count (verb k) refl refl) (λ k e _ n. took-other count (option k) refl refl)
+    (λ k a d e. took-other count (argument k a) refl refl) (λ g x y e. took-other count (target g) refl refl) (λ q x c e. took-prop (isHelp v) count t q c e) (took-prop (isHelp v) count t) p i h
 
 pub took : (s : State) (t : List Sign) (i : Item) → decide s t ≡ takes i → Took (s .count) i
 unfolding decide
-took s t i h = took-in (s .phase) (s .help) (s .seen) (s .count) t i h
+took s t i h = took-in (s .phase) (s .verb) (s .seen) (s .count) t i h
 
 -- ---- what is left of a line
 
@@ -225,7 +225,7 @@ none-given line a s e = ap (offerAt line s) e
 
 -- with one, by the decision on it; the term begins the part of the line that begins at b
 pub term-given : (line : List ℕ) (a : ℕ) (s : State) (b n : ℕ) (d : Decided) → found.Term b n ≡ termAt line a
-    → d ≡ decidedOf (decideIn (s .phase) (s .help) (s .seen) (s .count) (signs Out (take n (take (length line - b) (drop b line)))))
+    → d ≡ decidedOf (decideIn (s .phase) (s .verb) (s .seen) (s .count) (signs Out (take n (take (length line - b) (drop b line)))))
     → offerOn b n d ≡ offerOf line a s
 unfolding offerOf decide
 term-given line a s b n d e h =

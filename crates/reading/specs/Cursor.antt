@@ -3,7 +3,6 @@ use Prim.Native.Nat.{ℕ, _+_}
 use mathlib.Core.List.{List}
 use mathlib.Core.Bool.{true}
 use lib.ListN.{length, take, drop, set}
-use lib.Dec.{eqb}
 use Rattle.terms.specs.declared.Mode.the-variants.{Out}
 use Rattle.terms.specs.declared.Found.{Found}
 use Rattle.terms.specs.declared.Found.the-variants as found
@@ -31,11 +30,11 @@ decidedOf (takes i) = Takes (shownOf i)
 
 -- the next state reads of a part only what is shown
 abbrev pub nextShown : State → Shown → State
-nextShown s (shown.Verb n) = state Options (eqb n 6) (s .seen) (s .count)
-nextShown s (shown.Option n) = state (phaseAfter n (kindOf n)) (s .help) (set (s .seen) n true) (s .count)
-nextShown s (shown.Argument n) = state Options (s .help) (s .seen) (s .count)
-nextShown s shown.Target = state Rest (s .help) (s .seen) (s .count)
-nextShown s (shown.Property n o) = state Rest (s .help) (s .seen) (s .count + 1)
+nextShown s (shown.Verb n) = state Options n (s .seen) (s .count)
+nextShown s (shown.Option n) = state (phaseAfter n (kindOf n)) (s .verb) (set (s .seen) n true) (s .count)
+nextShown s (shown.Argument n) = state Options (s .verb) (s .seen) (s .count)
+nextShown s shown.Target = state Rest (s .verb) (s .seen) (s .count)
+nextShown s (shown.Property n o) = state Rest (s .verb) (s .seen) (s .count + 1)
 
 abbrev pub cursor : ℕ → State → Cursor
 cursor a s = record { at = a; state = s }

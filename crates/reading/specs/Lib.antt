@@ -7,3 +7,4 @@ pub mod Shown
 pub mod Inside
 pub mod Order
 pub mod EitherCase
+pub mod Excluded

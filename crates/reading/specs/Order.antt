@@ -1,4 +1,4 @@
--- Numbers a refused caller gets, rows 6 to 14: the condition of each row by itself, the order of the rows, and what a refused line is.
+-- Numbers a refused caller gets, rows 6 to 14 and 20: the condition of each row by itself, the order of the rows, and what a refused line is.
 use Prim.Native.Nat.{ℕ}
 use mathlib.Core.Path.{_≡_}
 use mathlib.Core.List.{List, [], _∷_, _++_}
@@ -11,6 +11,7 @@ use Rattle.terms.specs.Signs.{Sign, raws}
 use Rattle.terms.specs.Terms.{Term, termsOf}
 use Rattle.terms.specs.Rows.{lexicalOf}
 use Rattle.words.specs.Words.{verbOf, optionOf, kindOf}
+use Rattle.support.specs.Table15.{allowed}
 use Rattle.forms.specs.Forms.{starts, hasEq, propertyOf, topicOf}
 use Rattle.forms.specs.Targets.{targetOf}
 use Rattle.forms.specs.Answers.{isSome}
@@ -18,7 +19,7 @@ use Rattle.reading.specs.declared.Phase.{Phase}
 use Rattle.reading.specs.declared.Phase.the-variants.{First, Options, Waits, Rest}
 use Rattle.reading.specs.declared.State.{State}
 use Rattle.reading.specs.Command.{Item, argumentBy}
-use Rattle.reading.specs.Reading.{begin, Decision, refuses, takes, decide, next}
+use Rattle.reading.specs.Reading.{begin, isHelp, Decision, refuses, takes, decide, next}
 
 -- ---- the places of a command: the verb's; the options'; the place after an option that takes an argument; after the options' end
 
@@ -70,9 +71,14 @@ abbrev pub isSeen : List Bool → Option ℕ → Bool
 isSeen seen none = false
 isSeen seen (some n) = getD seen n false
 
--- ---- the rows, each by itself; p says what may come next, help whether the verb is help
+-- is the option of this number one that the verb can't have?
+abbrev pub isExcluded : ℕ → Option ℕ → Bool
+isExcluded v none = false
+isExcluded v (some n) = not (allowed v n)
 
-module _ (p : Phase) (help : Bool) (seen : List Bool) (count : ℕ) (t : List Sign) where
+-- ---- the rows, each by itself; p says what may come next, v is the verb's number
+
+module _ (p : Phase) (v : ℕ) (seen : List Bool) (count : ℕ) (t : List Sign) where
   -- 6: no such verb
   abbrev pub row6 : Bool
   row6 = isFirst p && not (isSome (verbOf (raws t)))
@@ -80,6 +86,10 @@ module _ (p : Phase) (help : Bool) (seen : List Bool) (count : ℕ) (t : List Si
   -- 7: no such option
   abbrev pub row7 : Bool
   row7 = isOptionHere p t && not (isSome (optionOf (drop 1 (raws t))))
+
+  -- 20: an option known, but not for this verb
+  abbrev pub row20 : Bool
+  row20 = isOptionHere p t && isExcluded v (optionOf (drop 1 (raws t)))
 
   -- 8: option already given, by either name
   abbrev pub row8 : Bool
@@ -99,36 +109,37 @@ module _ (p : Phase) (help : Bool) (seen : List Bool) (count : ℕ) (t : List Si
 
   -- 12: target not of its form
   abbrev pub row12 : Bool
-  row12 = isTargetHere p help t && not (isSome (targetOf (raws t)))
+  row12 = isTargetHere p (isHelp v) t && not (isSome (targetOf (raws t)))
 
   -- 13: property not of its form; with help, a topic
   abbrev pub row13 : Bool
-  row13 = isPropertyHere p help t && not (isSome (cond help (topicOf t) (propertyOf t)))
+  row13 = isPropertyHere p (isHelp v) t && not (isSome (cond (isHelp v) (topicOf t) (propertyOf t)))
 
   -- 14: over 32 properties
   abbrev pub row14 : Bool
-  row14 = isPropertyHere p help t && leb 32 count
+  row14 = isPropertyHere p (isHelp v) t && leb 32 count
 
 -- does this row hold of a term?
-abbrev pub holdsIn : Phase → Bool → List Bool → ℕ → List Sign → ℕ → Bool
-holdsIn p help seen count t k =
-    cond (eqb k 6) (row6 p help seen count t)
-    (cond (eqb k 7) (row7 p help seen count t)
-    (cond (eqb k 8) (row8 p help seen count t)
-    (cond (eqb k 9) (row9 p help seen count t)
-    (cond (eqb k 10) (row10 p help seen count t)
-    (cond (eqb k 11) (row11 p help seen count t)
-    (cond (eqb k 12) (row12 p help seen count t)
-    (cond (eqb k 13) (row13 p help seen count t)
-    (cond (eqb k 14) (row14 p help seen count t) false))))))))
+abbrev pub holdsIn : Phase → ℕ → List Bool → ℕ → List Sign → ℕ → Bool
+holdsIn p v seen count t k =
+    cond (eqb k 6) (row6 p v seen count t)
+    (cond (eqb k 7) (row7 p v seen count t)
+    (cond (eqb k 20) (row20 p v seen count t)
+    (cond (eqb k 8) (row8 p v seen count t)
+    (cond (eqb k 9) (row9 p v seen count t)
+    (cond (eqb k 10) (row10 p v seen count t)
+    (cond (eqb k 11) (row11 p v seen count t)
+    (cond (eqb k 12) (row12 p v seen count t)
+    (cond (eqb k 13) (row13 p v seen count t)
+    (cond (eqb k 14) (row14 p v seen count t) false)))))))))
 
 unfoldable pub holds : State → List Sign → ℕ → Bool
-holds s t k = holdsIn (s .phase) (s .help) (s .seen) (s .count) t k
+holds s t k = holdsIn (s .phase) (s .verb) (s .seen) (s .count) t k
 
--- ---- the order: by number, but within one term 11 precedes 14, which precedes 13
+-- ---- the order: by number, but 20 stands after 7 and before 8, and within one term 11 precedes 14, which precedes 13
 
 unfoldable pub order : List ℕ
-order = 6 ∷ 7 ∷ 8 ∷ 9 ∷ 10 ∷ 11 ∷ 12 ∷ 14 ∷ 13 ∷ []
+order = 6 ∷ 7 ∷ 20 ∷ 8 ∷ 9 ∷ 10 ∷ 11 ∷ 12 ∷ 14 ∷ 13 ∷ []
 
 -- k is among these rows, its own row holds, and none of those before it does
 unfoldable pub isFirstOf : (ℕ → Bool) → List ℕ → ℕ → Bool

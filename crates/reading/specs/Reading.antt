@@ -1,4 +1,4 @@
--- The command and rows 6 to 14: the terms of a line from left to right, each decided by the state and its own signs.
+-- The command and rows 6 to 14 and 20: the terms of a line from left to right, each decided by the state and its own signs.
 use Prim.Native.Nat.{ℕ, _+_}
 use mathlib.Core.List.{List, [], _∷_, map}
 use mathlib.Core.Bool.{Bool, true, false, cond, not, _&&_}
@@ -13,6 +13,7 @@ use Rattle.terms.specs.Rows.{lexicalOf}
 use Rattle.words.specs.declared.Kind.{Kind}
 use Rattle.words.specs.declared.Kind.the-variants.{Mere, Keep, Level, Place, Entries}
 use Rattle.words.specs.Words.{verbOf, optionOf, kindOf}
+use Rattle.support.specs.Table15.{allowed}
 use Rattle.forms.specs.Forms.{starts, hasEq, propertyOf, topicOf}
 use Rattle.forms.specs.Targets.{targetOf}
 use Rattle.reading.specs.declared.Phase.{Phase}
@@ -20,13 +21,17 @@ use Rattle.reading.specs.declared.Phase.the-variants.{First, Options, Wa
 use Rattle.reading.specs.declared.State.{State}
 use Rattle.reading.specs.Command.{argumentBy, Item, verb, option, argument, target, prop}
 
--- A state: what may come next (the verb; options, the target or a property; the argument of an option; properties alone), whether the verb is help,
+-- A state: what may come next (the verb; options, the target or a property; the argument of an option; properties alone), the verb's number (0 before it),
 -- the options seen, the properties counted.
-abbrev pub state : Phase → Bool → List Bool → ℕ → State
-state p h s n = record { phase = p; help = h; seen = s; count = n }
+abbrev pub state : Phase → ℕ → List Bool → ℕ → State
+state p v s n = record { phase = p; verb = v; seen = s; count = n }
 
 abbrev pub begin : State
-begin = state First false (replicate 13 false) 0
+begin = state First 0 (replicate 13 false) 0
+
+-- is the verb help?
+abbrev pub isHelp : ℕ → Bool
+isHelp v = eqb v 6
 
 -- a term is refused by a number, or is a part of the command
 pub data Decision : Type 0 where
@@ -41,13 +46,13 @@ orNo n (some a) f = takes (f a)
 unfoldable pub decideVerb : List Sign → Decision
 decideVerb t = orNo 6 (verbOf (raws t)) verb
 
--- 7: no such option; 8: option already given, by either name
-abbrev pub notSeen : List Bool → Option ℕ → Decision
-notSeen seen none = refuses 7
-notSeen seen (some n) = cond (getD seen n false) (refuses 8) (takes (option n))
+-- 7: no such option; 20: an option that this verb can't have; 8: option already given, by either name
+abbrev pub newOption : ℕ → List Bool → Option ℕ → Decision
+newOption v seen none = refuses 7
+newOption v seen (some n) = cond (not (allowed v n)) (refuses 20) (cond (getD seen n false) (refuses 8) (takes (option n)))
 
-unfoldable pub decideOption : List Bool → List Sign → Decision
-decideOption seen t = notSeen seen (optionOf (drop 1 (raws t)))
+unfoldable pub decideOption : ℕ → List Bool → List Sign → Decision
+decideOption v seen t = newOption v seen (optionOf (drop 1 (raws t)))
 
 -- 9: its term starts with a bare `-`; 10: argument not of its form
 unfoldable pub decideArgument : ℕ → List Sign → Decision
@@ -66,14 +71,14 @@ unfoldable pub decideAfter : Bool → ℕ → List Sign → Decision
 decideAfter help count t = cond (not help && not (hasEq t)) (decideTarget t) (decideProperty help count t)
 
 -- 11: bare `-` starts a term after the options' end
-abbrev pub decideIn : Phase → Bool → List Bool → ℕ → List Sign → Decision
-decideIn First help seen count t = decideVerb t
-decideIn Options help seen count t = cond (starts 45 t) (decideOption seen t) (decideAfter help count t)
-decideIn (Waits n) help seen count t = decideArgument n t
-decideIn Rest help seen count t = cond (starts 45 t) (refuses 11) (decideProperty help count t)
+abbrev pub decideIn : Phase → ℕ → List Bool → ℕ → List Sign → Decision
+decideIn First v seen count t = decideVerb t
+decideIn Options v seen count t = cond (starts 45 t) (decideOption v seen t) (decideAfter (isHelp v) count t)
+decideIn (Waits n) v seen count t = decideArgument n t
+decideIn Rest v seen count t = cond (starts 45 t) (refuses 11) (decideProperty (isHelp v) count t)
 
 unfoldable pub decide : State → List Sign → Decision
-decide s t = decideIn (s .phase) (s .help) (s .seen) (s .count) t
+decide s t = decideIn (s .phase) (s .verb) (s .seen) (s .count) t
 
 -- the next state depends on the part alone
 abbrev pub phaseAfter : ℕ → Kind → Phase
@@ -84,11 +89,11 @@ phaseAfter n Place = Waits n
 phaseAfter n Entries = Waits n
 
 abbrev pub next : State → Item → State
-next s (verb n) = state Options (eqb n 6) (s .seen) (s .count)
-next s (option n) = state (phaseAfter n (kindOf n)) (s .help) (set (s .seen) n true) (s .count)
-next s (argument n a) = state Options (s .help) (s .seen) (s .count)
-next s (target a) = state Rest (s .help) (s .seen) (s .count)
-next s (prop a) = state Rest (s .help) (s .seen) (s .count + 1)
+next s (verb n) = state Options n (s .seen) (s .count)
+next s (option n) = state (phaseAfter n (kindOf n)) (s .verb) (set (s .seen) n true) (s .count)
+next s (argument n a) = state Options (s .verb) (s .seen) (s .count)
+next s (target a) = state Rest (s .verb) (s .seen) (s .count)
+next s (prop a) = state Rest (s .verb) (s .seen) (s .count + 1)
 
 -- a part of the command and the term that it is
 pub record Part : Type 0 where

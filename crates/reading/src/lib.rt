@@ -31,10 +31,10 @@ pub enum Phase {
     Rest,
 }
 
-// What the terms so far have left: what may come next, whether the verb is help, the options seen, the properties counted.
+// What the terms so far have left: what may come next, the verb's number (0 before it), the options seen, the properties counted.
 pub struct State {
     pub phase: Phase,
-    pub help: bool,
+    pub verb: u8,
     pub seen: [bool; 13],
     pub count: usize,
 }
@@ -106,8 +106,8 @@ fn was_seen(seen: [bool; 13], n: u8) -> bool
     false
 }
 
-fn decide_option(t: &[u8], seen: [bool; 13]) -> Decided
-    ensures { λ r. ⌜ r ≡ decidedOf (decideOption seen (signs Out (now (t .entry)))) ⌝ }
+fn decide_option(t: &[u8], verb: u8, seen: [bool; 13]) -> Decided
+    ensures { λ r. ⌜ r ≡ decidedOf (decideOption verb seen (signs Out (now (t .entry)))) ⌝ }
 {
     if t.len() == 0 {
         return Decided::Refuses(7);
@@ -115,6 +115,9 @@ fn decide_option(t: &[u8], seen: [bool; 13]) -> Decided
     let k = words::option(&t[1..]);
     match k {
         Known::Is(n) => {
+            if !support::allows(verb, n) {
+                return Decided::Refuses(20);
+            }
             if was_seen(seen, n) {
                 return Decided::Refuses(8);
             }
@@ -204,23 +207,17 @@ fn decide_after(s: &[u8], n: usize, help: bool, count: usize) -> Decided
 }
 
 // The term is the first n bytes of s.
-fn decide_in(
-    s: &[u8],
-    n: usize,
-    phase: Phase,
-    help: bool,
-    seen: [bool; 13],
-    count: usize,
-) -> Decided
+fn decide_in(s: &[u8], n: usize, phase: Phase, verb: u8, seen: [bool; 13], count: usize) -> Decided
     requires { ⌜ n ≤ length (now s) ⌝ }
-    ensures { λ r. ⌜ r ≡ decidedOf (decideIn phase help seen count (signs Out (take n (now (s .entry))))) ⌝ }
+    ensures { λ r. ⌜ r ≡ decidedOf (decideIn phase verb seen count (signs Out (take n (now (s .entry))))) ⌝ }
 {
     let t = &s[..n];
+    let help = verb == 6;
     match phase {
         Phase::First => decide_verb(t),
         Phase::Options => {
             if terms::starts_bare(t, b'-') {
-                return decide_option(t, seen);
+                return decide_option(t, verb, seen);
             }
             decide_after(s, n, help, count)
         }
@@ -266,13 +263,13 @@ fn after(s: State, i: Shown) -> State
     requires { ⌜ (counted i ≡ 1 → s .count < 32) ⌝ }
     ensures { λ r. ⌜ r ≡ nextShown s i ⌝ }
 {
-    let help = s.help;
+    let verb = s.verb;
     let seen = s.seen;
     let count = s.count;
     match i {
         Shown::Verb(n) => State {
             phase: Phase::Options,
-            help: n == 6,
+            verb: n,
             seen,
             count,
         },
@@ -281,20 +278,20 @@ fn after(s: State, i: Shown) -> State
             let m = marked(seen, n);
             State {
                 phase,
-                help,
+                verb,
                 seen: m,
                 count,
             }
         }
         Shown::Argument(_) => State {
             phase: Phase::Options,
-            help,
+            verb,
             seen,
             count,
         },
         Shown::Target => State {
             phase: Phase::Rest,
-            help,
+            verb,
             seen,
             count,
         },
@@ -303,7 +300,7 @@ fn after(s: State, i: Shown) -> State
             operator: _,
         } => State {
             phase: Phase::Rest,
-            help,
+            verb,
             seen,
             count: count + 1,
         },
@@ -333,10 +330,10 @@ fn offer_next(line: &[u8], at: usize, state: State) -> Offer
     let Found::Term { start, len } = terms::term_at(line, at) else {
         return offer_end(phase, line.len());
     };
-    let help = state.help;
+    let verb = state.verb;
     let seen = state.seen;
     let count = state.count;
-    let d = decide_in(&line[start..], len, phase, help, seen, count);
+    let d = decide_in(&line[start..], len, phase, verb, seen, count);
     match d {
         Decided::Takes(item) => Offer::Part { item, start, len },
         Decided::Refuses(number) => Offer::Refused {
@@ -353,7 +350,7 @@ impl Cursor {
     {
         let state = State {
             phase: Phase::First,
-            help: false,
+            verb: 0,
             seen: [false; 13],
             count: 0,
         };

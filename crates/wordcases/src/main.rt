@@ -1,6 +1,7 @@
 // Reads texts, one to a line, and writes for each its number as a verb and as an option, and whether it is `all` and
 // `SESSION`; then for each number from 0 to 255 its two names as written into room of 16 bytes, the kind of its argument,
-// its body's length and its record's.
+// its body's length and its record's; then, a row for each option number of 0 to 15 and 255 and in it a flag for each verb number of
+// the same, whether the verb can have the option.
 use showing::flag;
 use showing::line_len;
 use showing::number;
@@ -92,9 +93,30 @@ fn numbers() {
     one(255);
 }
 
+// Of an option, whether each verb can have it.
+fn row(option: u8) {
+    let mut verb: u8 = 0;
+    while verb < 16 {
+        flag(support::allows(verb, option));
+        verb += 1;
+    }
+    flag(support::allows(255, option));
+    end();
+}
+
+fn table() {
+    let mut option: u8 = 0;
+    while option < 16 {
+        row(option);
+        option += 1;
+    }
+    row(255);
+}
+
 fn main() {
     let mut part = [0u8; 8192];
     let got = io::read_full(0, &mut part);
     texts(&part[..got]);
     numbers();
+    table();
 }

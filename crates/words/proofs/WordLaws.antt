@@ -354,10 +354,11 @@ pub kind-out : (n : ℕ) → 12 < n → kindOf n ≡ Mere
 unfolding kindOf kinds
 kind-out n h = List·getD-eq-default kinds Mere h
 
-alike : Bool → Bool → Bool
+-- two tests that say the same
+unfoldable pub alike : Bool → Bool → Bool
 alike a b = cond a b (not b)
 
-alike-eq : (a b : Bool) → alike a b ≡ true → a ≡ b
+pub alike-eq : (a b : Bool) → alike a b ≡ true → a ≡ b
 unfolding alike
 alike-eq true b e = sym e
 alike-eq false b e = sym (not-true b e)

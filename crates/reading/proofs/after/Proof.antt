@@ -27,8 +27,8 @@ enum-told-2 c = search needs
 enum-told-3 : tie.Need-enum-told-3
 enum-told-3 c = search needs
 
-add-t16 : tie.Need-add-t16
-add-t16 c =
+add-t15 : tie.Need-add-t15
+add-t15 c =
     let h = c .before .before .before .pre (ap counted (c .enum-told3 .given .1)) in
     omega arith
 
@@ -58,7 +58,7 @@ after-spec =
     enum-told
     enum-told-2
     enum-told-3
-    add-t16
+    add-t15
     returns
     returns-2
     returns-3

@@ -31,7 +31,7 @@ returns : tie.Need-returns
 returns c =
     let s = c .before .before in
     let a = s .before .before .before .before .before .args in
-    rw (s .before .enum-told2 .given .1) (c .decide-option .ensures ∙ ap decidedOf (in-option (a .help) (a .seen) (a .count) (take (a .n) (a .s .now)) (sym (s .starts-bare .ensures) ∙ c .before .if1 .taken)))
+    rw (s .before .enum-told2 .given .1) (c .decide-option .ensures ∙ ap decidedOf (in-option (a .verb) (a .seen) (a .count) (take (a .n) (a .s .now)) (sym (s .starts-bare .ensures) ∙ c .before .if1 .taken)))
 
 decide-after-requires : tie.Need-decide-after-requires
 decide-after-requires c κs = search needs
@@ -52,7 +52,7 @@ returns-2 : tie.Need-returns-2
 returns-2 c =
     let s = c .before in
     let a = s .before .before .before .before .before .args in
-    rw (s .before .enum-told3 .given .1) (ap decidedOf (in-dash (a .help) (a .seen) (a .count) (take (a .n) (a .s .now)) (sym (s .starts-bare2 .ensures) ∙ c .if2 .taken)))
+    rw (s .before .enum-told3 .given .1) (ap decidedOf (in-dash (a .verb) (a .seen) (a .count) (take (a .n) (a .s .now)) (sym (s .starts-bare2 .ensures) ∙ c .if2 .taken)))
 
 decide-property-requires : tie.Need-decide-property-requires
 decide-property-requires c κs = search needs
@@ -64,7 +64,7 @@ returns-4 : tie.Need-returns-4
 returns-4 c =
     let s = c .before .before in
     let a = s .before .before .before .before .before .args in
-    rw (s .before .enum-told2 .given .1) (c .decide-after .ensures ∙ ap decidedOf (in-after (a .help) (a .seen) (a .count) (take (a .n) (a .s .now)) (sym (s .starts-bare .ensures) ∙ c .before .if1 .left)))
+    rw (s .before .enum-told2 .given .1) (c .decide-after .ensures ∙ ap decidedOf (in-after (a .verb) (a .seen) (a .count) (take (a .n) (a .s .now)) (sym (s .starts-bare .ensures) ∙ c .before .if1 .left)))
 
 returns-5 : tie.Need-returns-5
 returns-5 c = rw (c .before .before .phase .given .1) (c .decide-argument .ensures)
@@ -73,7 +73,7 @@ returns-6 : tie.Need-returns-6
 returns-6 c =
     let s = c .before .before in
     let a = s .before .before .before .before .before .args in
-    rw (s .before .enum-told3 .given .1) (c .decide-property .ensures ∙ ap decidedOf (in-property (a .help) (a .seen) (a .count) (take (a .n) (a .s .now)) (sym (s .starts-bare2 .ensures) ∙ c .before .if2 .left)))
+    rw (s .before .enum-told3 .given .1) (c .decide-property .ensures ∙ ap decidedOf (in-property (a .verb) (a .seen) (a .count) (take (a .n) (a .s .now)) (sym (s .starts-bare2 .ensures) ∙ c .before .if2 .left)))
 
 pub decide-in-spec : {M : Type 1} → statement M
 decide-in-spec =
