@@ -59,8 +59,8 @@ enum {
     CLP_LINE_BYTES = 1024,      /* a line has at most so many bytes, and the line buffer has exactly so many */
     CLP_LINE_TERMS = 64,        /* a line has at most so many terms */
     CLP_LINE_PROPERTIES = 32,   /* and so many properties */
-    CLP_READING_BYTES = 399,    /* clp_read, clp_list: a line's records (proved) */
-    CLP_CANONICAL_BYTES = 1978, /* clp_canonical: a line's writing (by reasoning over the rules, docs/DECISIONS.md; tested) */
+    CLP_READING_BYTES = 399,    /* clp_read, clp_list: a line's records (proved; the most that a line has is 387, with ten options of show) */
+    CLP_CANONICAL_BYTES = 1978, /* clp_canonical: a line's writing (the most is 1,976, by reasoning over the rules, docs/DECISIONS.md; tested) */
     CLP_TEXT_BYTES = 2394,      /* clp_records_text: the text of one line's records: 6 for each byte that they can have (proved) */
     CLP_TREE_NODES = 512,       /* a tree has at most so many nodes beside the root; clp_resolve: so many numbers */
     CLP_NODE_BYTES = 22,        /* a node's record in a tree */
@@ -85,7 +85,7 @@ enum {
     CLP_REFUSED_QUOTE = 4,          /* the line ends in a quote: the opening quote */
     CLP_REFUSED_TERMS = 5,          /* over 64 terms: start of the 65th */
     CLP_REFUSED_VERB = 6,           /* no such verb: start of the term */
-    CLP_REFUSED_OPTION = 7,         /* no such option: start of the term */
+    CLP_REFUSED_OPTION = 7,         /* no such option: start of the term; one that the verb can't have is 20 */
     CLP_REFUSED_OPTION_TWICE = 8,   /* option already given, by either name: start of the term */
     CLP_REFUSED_NO_ARGUMENT = 9,    /* argument missing, or its term starts with a bare -: that term, or the line's length */
     CLP_REFUSED_ARGUMENT = 10,      /* argument not of its form: start of the argument */
@@ -97,16 +97,17 @@ enum {
     CLP_REFUSED_NODE = 16,          /* the default target, or the node asked for, is no node: 0 */
     CLP_REFUSED_ABOVE_ROOT = 17,    /* .. at the root: start of the segment */
     CLP_REFUSED_CHILD = 18,         /* no such child: start of the segment */
-    CLP_REFUSED_ROOM = 19           /* lent room too small, or a bad state or line buffer in joining: 0 */
+    CLP_REFUSED_ROOM = 19,          /* lent room too small, or a bad state or line buffer in joining: 0 */
+    CLP_REFUSED_NOT_FOR_VERB = 20   /* an option that this verb can't have (CLP_OPTION_ below): start of the term; it comes after 7, before 8 */
 };
 
 /* Which function can give which:
  *     clp_join          1, 19 (a bad state, or a buffer that is not of CLP_LINE_BYTES)
  *     clp_end           19 (a bad state)
- *     clp_read          1 to 14, then 19 (the records do not fit)
+ *     clp_read          1 to 14 and 20, then 19 (the records do not fit)
  *     clp_target        none
  *     clp_next_term     1 to 5
- *     clp_canonical     1 to 14, then 19 (the writing does not fit)
+ *     clp_canonical     1 to 14 and 20, then 19 (the writing does not fit)
  *     clp_meant         19 (the bytes do not fit)
  *     clp_check_tree    15
  *     clp_resolve       12, 15, 16, 17, 18, then 19 (the numbers do not fit)
@@ -191,20 +192,21 @@ enum {
     CLP_VERB_VERSION = 13
 };
 
-/* Each is given at most once in a line, by its long or its short name, in either case. */
+/* Each is given at most once in a line, by its long or its short name, in either case, and only with the verbs that can have it (Table 15 of DSP0214):
+ * with another verb it is CLP_REFUSED_NOT_FOR_VERB. */
 enum {
-    CLP_OPTION_ALL = 1,         /* -all, -a */
-    CLP_OPTION_DESTINATION = 2, /* -destination, with an argument */
-    CLP_OPTION_DISPLAY = 3,     /* -display, -d, with an argument */
-    CLP_OPTION_EXAMINE = 4,     /* -examine, -x */
-    CLP_OPTION_FORCE = 5,       /* -force, -f */
-    CLP_OPTION_HELP = 6,        /* -help, -h */
-    CLP_OPTION_KEEP = 7,        /* -keep, -k, with an argument */
-    CLP_OPTION_LEVEL = 8,       /* -level, -l, with an argument */
-    CLP_OPTION_OUTPUT = 9,      /* -output, -o, with an argument */
-    CLP_OPTION_SOURCE = 10,     /* -source, with an argument */
-    CLP_OPTION_VERSION = 11,    /* -version, -v */
-    CLP_OPTION_WAIT = 12        /* -wait, -w */
+    CLP_OPTION_ALL = 1,         /* -all, -a: show */
+    CLP_OPTION_DESTINATION = 2, /* -destination, with an argument: dump */
+    CLP_OPTION_DISPLAY = 3,     /* -display, -d, with an argument: show */
+    CLP_OPTION_EXAMINE = 4,     /* -examine, -x: every verb */
+    CLP_OPTION_FORCE = 5,       /* -force, -f: delete, dump, load, reset, set, show, start, stop */
+    CLP_OPTION_HELP = 6,        /* -help, -h: every verb */
+    CLP_OPTION_KEEP = 7,        /* -keep, -k, with an argument: every verb */
+    CLP_OPTION_LEVEL = 8,       /* -level, -l, with an argument: show */
+    CLP_OPTION_OUTPUT = 9,      /* -output, -o, with an argument: every verb */
+    CLP_OPTION_SOURCE = 10,     /* -source, with an argument: load */
+    CLP_OPTION_VERSION = 11,    /* -version, -v: every verb */
+    CLP_OPTION_WAIT = 12        /* -wait, -w: every verb but exit */
 };
 
 enum {
