@@ -1,5 +1,5 @@
-//! An independent reader of the SM CLP dialect of document 01, with request a of document 02,
-//! written from those papers alone.
+//! An independent reader of the SM CLP dialect of document 01, with requests a and b of document
+//! 02, written from those papers alone.
 //!
 //! One module follows one section of the paper. All functions are total: they take any input,
 //! never panic, and on a refusal leave every lent answer buffer as it was.
@@ -19,6 +19,7 @@ pub mod tree;
 
 mod bytes;
 mod sink;
+mod support;
 mod value;
 mod vocabulary;
 

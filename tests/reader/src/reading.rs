@@ -4,9 +4,11 @@ use crate::bytes::decimal;
 use crate::path::is_target;
 use crate::records::{Gathered, Record};
 use crate::refusal::{
-    Refusal, ARGUMENT_MALFORMED, ARGUMENT_MISSING, NO_SUCH_OPTION, NO_SUCH_VERB, OPTION_REPEATED,
-    OPTION_TOO_LATE, PROPERTY_MALFORMED, ROOM_TOO_SMALL, TARGET_MALFORMED, TOO_MANY_PROPERTIES,
+    Refusal, ARGUMENT_MALFORMED, ARGUMENT_MISSING, NOT_FOR_VERB, NO_SUCH_OPTION, NO_SUCH_VERB,
+    OPTION_REPEATED, OPTION_TOO_LATE, PROPERTY_MALFORMED, ROOM_TOO_SMALL, TARGET_MALFORMED,
+    TOO_MANY_PROPERTIES,
 };
+use crate::support::{options_of, Options};
 use crate::terms::{find_terms, Term, Terms};
 use crate::value::{is_item_row, value_length};
 use crate::vocabulary::{
@@ -53,7 +55,7 @@ pub(crate) fn gather(line: &[u8], gathered: &mut Gathered) -> Result<Part, Refus
     };
     let verb = verb_number(first.raw(line)).ok_or_else(|| refuse(NO_SUCH_VERB, *first))?;
     gathered.push(Record::Verb { number: verb });
-    let after_options = read_options(line, after_verb, gathered)?;
+    let after_options = read_options(line, after_verb, options_of(verb), gathered)?;
     let (target, others) = read_target(line, after_options, verb, gathered)?;
     read_properties(line, others, verb, gathered)?;
     Ok(target)
@@ -76,24 +78,29 @@ fn absent_after(term: Term) -> Part {
     }
 }
 
-/// Reads the options with their arguments, and gives the terms after them.
+/// Reads the options with their arguments, and gives the terms after them; 7 comes before 20
+/// before 8.
 fn read_options<'t>(
     line: &[u8],
     terms: &'t [Term],
+    had: Options,
     gathered: &mut Gathered,
 ) -> Result<&'t [Term], Refusal> {
     let mut rest = terms;
-    let mut given: u16 = 0;
+    let mut given = Options::NONE;
     while let Some((&term, after)) = rest.split_first() {
         if !starts_with_dash(line, term) {
             break;
         }
         let name = &term.raw(line)[1..];
         let number = option_number(name).ok_or_else(|| refuse(NO_SUCH_OPTION, term))?;
-        if given & (1 << number) != 0 {
+        if !had.has(number) {
+            return Err(refuse(NOT_FOR_VERB, term));
+        }
+        if given.has(number) {
             return Err(refuse(OPTION_REPEATED, term));
         }
-        given |= 1 << number;
+        given.add(number);
         let mut argument = absent_after(term);
         rest = after;
         if takes_argument(number) {

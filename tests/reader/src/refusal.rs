@@ -35,6 +35,8 @@ pub const NO_SUCH_NODE: u8 = 16;
 pub const ABOVE_THE_ROOT: u8 = 17;
 pub const NO_SUCH_CHILD: u8 = 18;
 pub const NO_ROOM: u8 = 19;
+/// Document 02's request b; after 7 and before 8.
+pub const NOT_FOR_VERB: u8 = 20;
 
 /// Refusal 19, whose place is always 0.
 pub(crate) const ROOM_TOO_SMALL: Refusal = Refusal {

@@ -67,20 +67,47 @@ fn properties_32_and_33() {
     assert_same_text(&repeated("set /", " a=b", 33, ""), "refusal 14 134");
 }
 
-#[test]
-fn a_reading_takes_at_most_399_bytes() {
-    let options = "show -a -destination x -d x -x -f -h -k 1 -l 1 -o x -source x -v -w / ";
-    // 64 terms leave no space for all: 1 verb, 18 for options, 1 target, 32 properties.
-    let line = repeated(options, "a ", 32, "");
+/// The records of a line with all options that its verb can have, each once, then a target and 32
+/// properties: no other line of that verb has more. With one byte less of room it is 19.
+fn most_records(verb: &str, options: &str) -> usize {
+    // 64 terms are space enough: 1 verb, 14 for options of show, 1 target, 32 properties.
+    let target = if verb == "help" { "" } else { " /" };
+    let line = repeated(&format!("{verb} {options}{target}"), " a", 32, "");
     let mut room = [0xaa; 399];
-    assert_eq!(
-        clp_reader::reading::read(&line, &mut room).unwrap().length,
-        399
-    );
-    let mut room = [0xaa; 398];
+    let length = clp_reader::reading::read(&line, &mut room).unwrap().length;
+    assert!(room[length..].iter().all(|&byte| byte == 0xaa));
+    let mut room = vec![0xaa; length - 1];
     let refusal = clp_reader::reading::read(&line, &mut room).unwrap_err();
     assert_eq!((refusal.number, refusal.place), (19, 0));
-    assert_eq!(room, [0xaa; 398]);
+    assert!(room.iter().all(|&byte| byte == 0xaa));
+    length
+}
+
+#[test]
+fn a_reading_takes_at_most_399_bytes() {
+    // Since document 02's request b no verb has all twelve options, which would take them all.
+    let show = most_records("show", "-a -d x -x -f -h -k 1 -l 1 -o x -v -w");
+    assert_eq!(show, 2 + 10 * 6 + 5 + 32 * 10);
+    assert_eq!(show, 387);
+    let of_all = "-x -h -k 1 -o x -v";
+    for (verb, more, options) in [
+        ("cd", "-w", 6),
+        ("create", "-w", 6),
+        ("delete", "-f -w", 7),
+        ("dump", "-destination x -f -w", 8),
+        ("exit", "", 5),
+        ("load", "-f -source x -w", 8),
+        ("reset", "-f -w", 7),
+        ("set", "-f -w", 7),
+        ("start", "-f -w", 7),
+        ("stop", "-f -w", 7),
+        ("version", "-w", 6),
+    ] {
+        let length = most_records(verb, &format!("{of_all} {more}"));
+        assert_eq!(length, 2 + options * 6 + 5 + 32 * 10, "{verb}");
+    }
+    let help = most_records("help", &format!("{of_all} -w"));
+    assert_eq!(help, 2 + 6 * 6 + 32 * 10);
 }
 
 #[test]

@@ -1,5 +1,5 @@
 //! Each row of the tables of readings, section by section: of document 01, and of document 02 for
-//! request a.
+//! requests a and b.
 
 mod common;
 
@@ -842,7 +842,11 @@ mod shouted {
             ],
             "verb 10|option 8 12 1",
         );
-        assert_each(&["cd -l 0", "CD -L 0", "Cd -L 0"], "verb 1|option 8 6 1");
+        assert_each(&["cd -k 0", "CD -K 0", "Cd -K 0"], "verb 1|option 7 6 1");
+        assert_each(
+            &["show -l 0", "SHOW -L 0", "Show -L 0"],
+            "verb 10|option 8 8 1",
+        );
         assert_each(&["show -D a", "show -d a"], "verb 10|option 3 8 1");
     }
 
@@ -957,11 +961,207 @@ mod shouted {
         );
         assert_eq!(canonical("SHOW SESSION Name==X"), "show SESSION Name==X");
         assert_eq!(
-            canonical("LOAD -SOURCE FTP://H/X -D All=(A,\"B c\") A=\"B\""),
-            "load -source FTP://H/X -display All=(A,\"B c\") A=B"
+            canonical("LOAD -SOURCE FTP://H/X -O All=(A,\"B c\") A=\"B\""),
+            "load -source FTP://H/X -output All=(A,\"B c\") A=B"
+        );
+        assert_eq!(
+            canonical("SHOW -D All=(A,\"B c\") A=\"B\""),
+            "show -display All=(A,\"B c\") A=B"
         );
         assert!(same("SHOW -F \\A1", "show -force /A1") && !same("cd /A1", "cd /a1"));
         assert!(!same("set a=B", "set a=b") && !same("set A=b", "set a=b"));
         assert!(!same("load -source A", "load -source a"));
+    }
+}
+
+/// Document 02, request b.
+mod options_of_a_verb {
+    use super::*;
+
+    /// Table 15 of DSP0214 with its columns as printed; its notes are the digits.
+    #[rustfmt::skip]
+    const TABLE_15: &str = "\
+| CLP Option  | cd | create | delete | dump | exit | help | load | reset | set | show | start | stop | version |
+| all         |    |        |        |      |      |      |      |       |     | X    |       |      |         |
+| destination |    |        |        | X    |      |      |      |       |     |      |       |      |         |
+| display     |    |        |        |      |      |      |      |       |     | X    |       |      |         |
+| examine     | X  | X      | X      | X    | X    | X    | X    | X     | X   | X    | X     | X    | X       |
+| force       |    |        | X2     | X1   |      |      | X1   | X2    | X2  | X1   | X2    | X2   |         |
+| help        | X  | X      | X      | X    | X    | X    | X    | X     | X   | X    | X     | X    | X       |
+| keep        | X  | X      | X      | X    | X    | X    | X    | X     | X   | X    | X     | X    | X       |
+| level       |    |        |        |      |      |      |      |       |     | X    |       |      |         |
+| output      | X  | X      | X      | X    | X    | X    | X    | X     | X   | X    | X     | X    | X       |
+| source      |    |        |        |      |      |      | X    |       |     |      |       |      |         |
+| version     | X  | X      | X      | X    | X    | X    | X    | X     | X   | X    | X     | X    | X       |
+| wait        | X  | X      | X      | X    |      | X    | X    | X     | X   | X    | X     | X    | X       |
+";
+
+    /// An option as Table 14 has it: its long name, its short one if there is one, and an argument
+    /// that fits, if it takes one.
+    type Row14 = (&'static str, Option<&'static str>, Option<&'static str>);
+
+    const TABLE_14: [Row14; 12] = [
+        ("all", Some("a"), None),
+        ("destination", None, Some("ftp://h/x")),
+        ("display", Some("d"), Some("targets")),
+        ("examine", Some("x"), None),
+        ("force", Some("f"), None),
+        ("help", Some("h"), None),
+        ("keep", Some("k"), Some("60")),
+        ("level", Some("l"), Some("all")),
+        ("output", Some("o"), Some("format=text")),
+        ("source", None, Some("/system1")),
+        ("version", Some("v"), None),
+        ("wait", Some("w"), None),
+    ];
+
+    /// A row's cells without the spaces around them.
+    fn cells(row: &str) -> Vec<&str> {
+        let inside = row.strip_prefix('|').and_then(|row| row.strip_suffix('|'));
+        inside.expect(row).split('|').map(str::trim).collect()
+    }
+
+    /// Shows each pair of the table: verb with its number, option with its number, and the cell.
+    fn each_pair(mut show: impl FnMut((u8, &str), (u8, Row14), &str)) {
+        let mut rows = TABLE_15.lines().map(cells);
+        let head = rows.next().unwrap();
+        for ((number, row), option) in (1..).zip(rows).zip(TABLE_14) {
+            assert_eq!((row.len(), row[0]), (head.len(), option.0));
+            for ((verb, word), cell) in (1..).zip(&head[1..]).zip(&row[1..]) {
+                show((verb, word), (number, option), cell);
+            }
+        }
+    }
+
+    /// What a line of one verb and one option gives by the table.
+    fn expected(verb: (u8, &str), option: u8, name: &str, argument: &str, has: bool) -> String {
+        let place = verb.1.len() + 1;
+        if !has {
+            return format!("refusal 20 {place}");
+        }
+        let after = place + 1 + name.len();
+        let position = after + usize::from(!argument.is_empty());
+        let (verb, length) = (verb.0, argument.len());
+        format!("verb {verb}|option {option} {position} {length}")
+    }
+
+    #[test]
+    fn all_pairs_by_each_name() {
+        let (mut had, mut excluded, mut lines) = (0, 0, 0);
+        each_pair(|verb, (number, (long, short, argument)), cell| {
+            let has = match cell {
+                "X" | "X1" | "X2" => true,
+                "" => false,
+                _ => panic!("no cell of the table: {cell}"),
+            };
+            *if has { &mut had } else { &mut excluded } += 1;
+            let argument = argument.unwrap_or("");
+            for name in [Some(long), short].into_iter().flatten() {
+                let line = format!("{} -{name} {argument}", verb.1);
+                let line = line.trim_end();
+                let text = expected(verb, number, name, argument, has);
+                assert_same_text(line.as_bytes(), &text);
+                let shouted = format!(
+                    "{} -{} {argument}",
+                    verb.1.to_uppercase(),
+                    name.to_uppercase()
+                );
+                assert_same_text(shouted.trim_end().as_bytes(), &text);
+                lines += 1;
+            }
+        });
+        assert_eq!((had, excluded, lines), (90, 66, 156 + 10 * 13));
+    }
+
+    #[test]
+    fn x1_and_x2_are_had() {
+        each_pair(|(verb, word), (number, (name, ..)), cell| {
+            if cell == "X1" || cell == "X2" {
+                assert_eq!(name, "force");
+                let after = word.len() + 3;
+                let text = format!("verb {verb}|option {number} {after} 0");
+                assert_same_text(format!("{word} -f").as_bytes(), &text);
+            }
+        });
+        assert_same_text(b"reset -f", "verb 8|option 5 8 0");
+        assert_same_text(b"reset -f -force", "refusal 8 9");
+    }
+
+    #[test]
+    fn twenty_comes_after_7_and_before_8() {
+        // An excluded option is refused where it first stands.
+        assert_each(&["cd -f -f", "cd -f -force", "cd -F -x"], "refusal 20 3");
+        assert_each(&["cd -x -f -f", "cd -x -f -x"], "refusal 20 6");
+        assert_same_text(b"cd -x -x -f", "refusal 8 6");
+        assert_each(&["cd -zz -f", "cd -ff -f", "cd -"], "refusal 7 3");
+        assert_same_text(b"cd -f -zz", "refusal 20 3");
+        assert_same_text(b"load -source x -destination y", "refusal 20 15");
+        assert_same_text(b"dump -destination y -source x", "refusal 20 20");
+    }
+
+    #[test]
+    fn twenty_comes_before_9_and_10() {
+        assert_each(
+            &["set -level", "set -level ", "set -level 02", "set -l -x"],
+            "refusal 20 4",
+        );
+        assert_each(
+            &["cd -source \"a\"", "cd -d ,", "cd -display -x", "cd -L 1x"],
+            "refusal 20 3",
+        );
+        // What an option before it lacks or has wrong is told first.
+        assert_same_text(b"cd -k 02 -f", "refusal 10 6");
+        assert_same_text(b"cd -k -f", "refusal 9 6");
+        assert_same_text(b"cd -o a -f", "refusal 20 8");
+    }
+
+    #[test]
+    fn terms_that_are_not_read_as_options() {
+        assert_each(&["cd / -f", "cd . -source x", "cd . -L"], "refusal 11 5");
+        assert_same_text(b"help a -f", "refusal 11 7");
+        assert_each(
+            &[
+                "show -level -source x",
+                "show -level -all",
+                "SHOW -LEVEL -f",
+            ],
+            "refusal 9 12",
+        );
+        assert_each(&["cd `-f", "cd \"-f\"", "cd f"], "refusal 12 3");
+        assert_each(&["cd -\"f\"", "cd -`f", "cd -f=1", "cd --f"], "refusal 7 3");
+        assert_same_text(b"load -source `-level", "verb 7|option 10 13 7");
+        assert_same_text(b"cd -o level=-f", "verb 1|option 9 6 8");
+    }
+
+    #[test]
+    fn the_table_decides_where_prose_says_otherwise() {
+        assert_each(
+            &["create -source x", "create -source x /a1"],
+            "refusal 20 7",
+        );
+    }
+
+    #[test]
+    fn help_is_a_verb_like_any_other() {
+        assert_each(&["help -f", "help -f a", "help -level all"], "refusal 20 5");
+        assert_same_text(b"help -x a", "verb 6|option 4 7 0|property 8 1 0 9 0");
+    }
+
+    #[test]
+    fn rows_1_to_6_come_first_and_19_comes_last() {
+        assert_same_text(&repeated("cd -f", " ", 1020, ""), "refusal 1 1024");
+        assert_same_text(b"cd -f \x7f", "refusal 2 6");
+        assert_same_text(b"cd -f `", "refusal 3 6");
+        assert_same_text(b"cd -f \"", "refusal 4 6");
+        assert_same_text(&repeated("cd -f", " a", 63, ""), "refusal 5 130");
+        assert_same_text(b"zap -f", "refusal 6 0");
+        let line = b"  cd   -f a=b";
+        assert_eq!(read(line, &mut []), Err(refusal(20, 7)));
+        assert_eq!(write_canonical(line, &mut []), Err(refusal(20, 7)));
+        let mut room = [0xaa; 399];
+        assert_eq!(read(line, &mut room), Err(refusal(20, 7)));
+        assert_eq!(room, [0xaa; 399]);
+        assert_eq!(target_part(b"cd -f /"), Part::default());
+        assert!(!same("cd -f", "cd -f") && !same("cd -f", ""));
     }
 }
