@@ -1,7 +1,7 @@
 //! Document 02's cases through the proved library: each line's records and its canonical writing, or its refusal.
 
 use clp_face as face;
-use clp_vectors::{Answer, Refused, REQUEST_A};
+use clp_vectors::{Answer, Refused, REQUEST_A, REQUEST_B};
 
 /// What a call writes at the start of lent room, in the terms of the cases; the rest of the room stays as it was.
 fn answer(size: usize, call: impl Fn(&mut [u8]) -> face::Answer) -> Answer {
@@ -16,14 +16,34 @@ fn answer(size: usize, call: impl Fn(&mut [u8]) -> face::Answer) -> Answer {
     }
 }
 
+fn reading(line: &[u8]) -> Answer {
+    answer(face::READING_BYTES, |room| face::read(line, room))
+}
+
+fn writing(line: &[u8]) -> Answer {
+    answer(face::CANONICAL_BYTES, |room| face::canonical(line, room))
+}
+
 #[test]
 fn lines_of_request_a() {
     let cases = REQUEST_A.cases(3);
     for case in &cases {
         let line = case.bytes(0);
-        let reading = answer(face::READING_BYTES, |room| face::read(&line, room));
-        assert_eq!(reading, case.reading(1), "{}: {}", case.at, line.escape_ascii());
-        let writing = answer(face::CANONICAL_BYTES, |room| face::canonical(&line, room));
-        assert_eq!(writing, case.writing(2), "{}: {}", case.at, line.escape_ascii());
+        assert_eq!(reading(&line), case.reading(1), "{}: {}", case.at, line.escape_ascii());
+        assert_eq!(writing(&line), case.writing(2), "{}: {}", case.at, line.escape_ascii());
+    }
+}
+
+/// A refused line's writing is that refusal; any other is its own writing.
+#[test]
+fn lines_of_request_b() {
+    for case in &REQUEST_B.cases(2) {
+        let line = case.bytes(0);
+        let expected = case.reading(1);
+        assert_eq!(reading(&line), expected, "{}: {}", case.at, line.escape_ascii());
+        match writing(&line) {
+            Ok(written) => assert_eq!(writing(&written).as_ref(), Ok(&written), "{}: {}", case.at, line.escape_ascii()),
+            refused => assert_eq!(refused, expected, "{}: {}", case.at, line.escape_ascii()),
+        }
     }
 }

@@ -5,7 +5,7 @@ use clp_reader::canonical::write_canonical;
 use clp_reader::reading::read;
 use clp_reader::refusal::Refusal;
 use clp_reader::same::same_command;
-use clp_vectors::{Answer, Refused, REQUEST_A};
+use clp_vectors::{Answer, Refused, REQUEST_A, REQUEST_B};
 
 /// What a call writes at the start of lent room, in the terms of the cases.
 fn answer(call: impl Fn(&mut [u8]) -> Result<usize, Refusal>) -> Answer {
@@ -34,6 +34,20 @@ fn lines_of_request_a() {
         let line = case.bytes(0);
         assert_eq!(reading(&line), case.reading(1), "{}", case.at);
         assert_eq!(writing(&line), case.writing(2), "{}", case.at);
+    }
+}
+
+/// A refused line's writing is that refusal; any other reads back as the same command.
+#[test]
+fn lines_of_request_b() {
+    for case in &REQUEST_B.cases(2) {
+        let line = case.bytes(0);
+        let expected = case.reading(1);
+        assert_eq!(reading(&line), expected, "{}", case.at);
+        match writing(&line) {
+            Ok(written) => assert!(same_command(&line, &written), "{}", case.at),
+            refused => assert_eq!(refused, expected, "{}", case.at),
+        }
     }
 }
 

@@ -2,6 +2,9 @@
 //!
 //! A file's first line begins with `#` and names the columns. Whatever can't be read stops the
 //! test with the file's name and the line's number; no line is passed over.
+//!
+//! A file holds after the request that it belongs to. Cases that a later request answers otherwise
+//! stand in `changed.tsv`, each with its new answer; the files themselves stay as they came.
 
 #![forbid(unsafe_code)]
 
@@ -19,6 +22,21 @@ pub const REQUEST_A: Vectors = Vectors {
     count: 104,
 };
 
+/// Document 02, request b: line, reading.
+pub const REQUEST_B: Vectors = Vectors {
+    name: "02-b.tsv",
+    text: include_str!("../02-b.tsv"),
+    count: 191,
+};
+
+/// The cases that a later request changed: which case, its line, the request, the reading since
+/// then. Each is refused now, and a refused line's writing is that refusal.
+const CHANGED: Vectors = Vectors {
+    name: "changed.tsv",
+    text: include_str!("../changed.tsv"),
+    count: 2,
+};
+
 /// What a case expects: bytes, or a refusal.
 pub type Answer = Result<Vec<u8>, Refused>;
 
@@ -28,16 +46,40 @@ pub struct Refused {
     pub place: u16,
 }
 
-/// One case: its cells, and the line of the file where it stands.
+/// One case: its cells, the line of the file where it stands, and the refusal that a later request
+/// made of its answer.
 #[derive(Debug)]
 pub struct Case {
     pub at: String,
     cells: Vec<&'static str>,
+    since: Option<Refused>,
 }
 
 impl Vectors {
-    /// All cases of a file that has so many columns; a file with more or fewer cases than said stops the test.
+    /// All cases of a file that has so many columns, as they are answered since the last request.
     pub fn cases(&self, columns: usize) -> Vec<Case> {
+        self.cases_since(columns, &CHANGED)
+    }
+
+    /// The same with a file of changes; one that names no case of this file, or another line there, stops the test.
+    fn cases_since(&self, columns: usize, changed: &Vectors) -> Vec<Case> {
+        let mut cases = self.rows(columns);
+        for change in changed.rows(4) {
+            let (file, _) = change.cell(0, |cell| cell.split_once(':'));
+            if file != self.name {
+                continue;
+            }
+            let case = cases.iter_mut().find(|case| case.at == change.cells[0]);
+            let case = case.unwrap_or_else(|| panic!("{}: no such case", change.at));
+            assert_eq!(case.cells[0], change.cells[1], "{}: another line", change.at);
+            let since = case.since.replace(change.cell(3, refusal_of));
+            assert_eq!(since, None, "{}: changed twice", change.at);
+        }
+        cases
+    }
+
+    /// All rows of a file that has so many columns; a file with more or fewer than said stops the test.
+    fn rows(&self, columns: usize) -> Vec<Case> {
         let ended = self.text.strip_suffix('\n');
         let lines = ended.unwrap_or_else(|| panic!("{}: the last line has no end", self.name));
         let all = lines.split('\n').zip(1..).map(|(line, number)| {
@@ -45,7 +87,7 @@ impl Vectors {
             let cells: Vec<&str> = line.split('\t').collect();
             assert_eq!(cells.len(), columns, "{at}: not {columns} columns: {line}");
             assert_eq!(line.starts_with('#'), number == 1, "{at}: {line}");
-            Case { at, cells }
+            Case { at, cells, since: None }
         });
         let cases: Vec<Case> = all.skip(1).collect();
         assert_eq!(cases.len(), self.count, "{}: so many cases", self.name);
@@ -61,15 +103,24 @@ impl Case {
 
     /// The cell as a reading, in the bytes of its records.
     pub fn reading(&self, column: usize) -> Answer {
-        self.cell(column, |cell| or_refused(cell, records_of))
+        self.since(self.cell(column, |cell| or_refused(cell, records_of)))
     }
 
     /// The cell as something written.
     pub fn writing(&self, column: usize) -> Answer {
-        self.cell(column, |cell| or_refused(cell, bytes_of))
+        self.since(self.cell(column, |cell| or_refused(cell, bytes_of)))
     }
 
-    fn cell<T>(&self, column: usize, read: impl Fn(&str) -> Option<T>) -> T {
+    /// The answer since the last request, from what the file has; a change that changes nothing stops the test.
+    fn since(&self, answer: Answer) -> Answer {
+        let Some(refused) = self.since else {
+            return answer;
+        };
+        assert_ne!(answer, Err(refused), "{}: not changed", self.at);
+        Err(refused)
+    }
+
+    fn cell<T>(&self, column: usize, read: impl Fn(&'static str) -> Option<T>) -> T {
         let cell = self.cells[column];
         read(cell).unwrap_or_else(|| panic!("{}: of no form: {cell}", self.at))
     }
@@ -303,6 +354,64 @@ mod tests {
         };
         let stopped = std::panic::catch_unwind(read).expect_err(text);
         stopped.downcast_ref::<String>().unwrap().clone()
+    }
+
+    #[test]
+    fn changes_are_of_cases_in_files_of_earlier_requests() {
+        let files = [REQUEST_A, REQUEST_B].map(|file| file.name);
+        for change in CHANGED.rows(4) {
+            let (file, _) = change.cells[0].split_once(':').expect("a file and a line");
+            assert!(files.contains(&file), "{}: no such file: {file}", change.at);
+            let by = format!("02-{}.tsv", change.cells[2]);
+            assert!(by.as_str() > file && by.len() == file.len(), "{}: {by}", change.at);
+        }
+    }
+
+    /// What the one case of `02-a.tsv` here is answered with such a change, or what the test says as it stops.
+    fn changed(change: &'static str) -> Result<Answer, String> {
+        let text = "# line\treading\nb'cd -f'\tverb 1; option 5 5 0\n";
+        let name = "02-a.tsv";
+        let read = move || {
+            let changed = Vectors { name: "changed", text: change, count: 1 };
+            let cases = Vectors { name, text, count: 1 }.cases_since(2, &changed);
+            cases[0].reading(1)
+        };
+        std::panic::catch_unwind(read).map_err(|said| said.downcast_ref::<String>().unwrap().clone())
+    }
+
+    #[test]
+    fn a_change_names_its_case_and_changes_it() {
+        let refused = |number, place| Ok(Err(Refused { number, place }));
+        let same = Ok(Ok(vec![1, 1, 2, 5, 0, 5, 0, 0]));
+        assert_eq!(changed("#\t\t\t\n02-a.tsv:2\tb'cd -f'\tb\trefusal 20 at 3\n"), refused(20, 3));
+        assert_eq!(changed("#\t\t\t\n02-b.tsv:2\tb'cd -f'\tb\trefusal 20 at 3\n"), same);
+        let bad = [
+            ("#\t\t\t\n02-a.tsv:3\tb'cd -f'\tb\trefusal 20 at 3\n", "changed:2: no such case"),
+            ("#\t\t\t\n02-a.tsv\tb'cd -f'\tb\trefusal 20 at 3\n", "changed:2: of no form"),
+            ("#\t\t\t\n02-a.tsv:2\tb'cd -F'\tb\trefusal 20 at 3\n", "changed:2: another line"),
+            ("#\t\t\t\n02-a.tsv:2\tb'cd -f'\tb\tverb 1\n", "changed:2: of no form"),
+            ("#\t\t\t\n", "changed: so many cases"),
+        ];
+        for (change, expected) in bad {
+            let said = changed(change).expect_err(change);
+            assert!(said.contains(expected), "{change:?}: {said}");
+        }
+    }
+
+    #[test]
+    fn a_change_that_changes_nothing_stops_the_test() {
+        let text = "# line\treading\nb'cd -f'\trefusal 20 at 3\n";
+        let twice = "#\t\t\t\nx:2\tb'cd -f'\tb\trefusal 8 at 3\nx:2\tb'cd -f'\tc\trefusal 9 at 3\n";
+        let once = "#\t\t\t\nx:2\tb'cd -f'\tb\trefusal 20 at 3\n";
+        for (changes, count, expected) in [(once, 1, "x:2: not changed"), (twice, 2, "changed:3: changed twice")] {
+            let read = move || {
+                let changed = Vectors { name: "changed", text: changes, count };
+                Vectors { name: "x", text, count: 1 }.cases_since(2, &changed)[0].reading(1)
+            };
+            let stopped = std::panic::catch_unwind(read).expect_err(changes);
+            let said = stopped.downcast_ref::<String>().unwrap();
+            assert!(said.contains(expected), "{said}");
+        }
     }
 
     #[test]
