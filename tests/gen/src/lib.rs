@@ -7,7 +7,9 @@
 
 pub mod capture;
 pub mod damage;
+pub mod excluded;
 pub mod line;
+pub mod options;
 pub mod rng;
 pub mod shout;
 pub mod tree;

@@ -1,57 +1,15 @@
 //! Lines: valid by the grammar with verbs, option names and `all` in any case, damaged, noise, at
-//! the edges of every limit, and near misses of a word in another case.
+//! the edges of every limit, near misses of a word in another case, and options that the verb can't
+//! have.
 
 use std::ops::Range;
 
 use crate::damage::{damage, LOADED_BYTES};
+use crate::excluded::excluded_line;
+use crate::options::{options_of, Argument, OptionRow, VERBS};
 use crate::rng::Rng;
 use crate::shout::{shout, NEXT_TO_LETTERS};
 use crate::tree::{segment_text, tag, TAGS};
-
-pub const VERBS: [&str; 13] = [
-    "cd", "create", "delete", "dump", "exit", "help", "load", "reset", "set", "show", "start",
-    "stop", "version",
-];
-
-/// An option's names and what its argument is.
-struct OptionRow {
-    long: &'static str,
-    short: &'static str,
-    argument: Argument,
-}
-
-#[derive(Clone, Copy)]
-enum Argument {
-    None,
-    Location,
-    Items,
-    Keep,
-    Level,
-}
-
-const fn row(long: &'static str, short: &'static str, argument: Argument) -> OptionRow {
-    OptionRow {
-        long,
-        short,
-        argument,
-    }
-}
-
-/// An option without a short name has its long one twice.
-const OPTIONS: [OptionRow; 12] = [
-    row("all", "a", Argument::None),
-    row("destination", "destination", Argument::Location),
-    row("display", "d", Argument::Items),
-    row("examine", "x", Argument::None),
-    row("force", "f", Argument::None),
-    row("help", "h", Argument::None),
-    row("keep", "k", Argument::Keep),
-    row("level", "l", Argument::Level),
-    row("output", "o", Argument::Items),
-    row("source", "source", Argument::Location),
-    row("version", "v", Argument::None),
-    row("wait", "w", Argument::None),
-];
 
 const EDGE_NUMBERS: [&str; 15] = [
     "0",
@@ -122,10 +80,20 @@ const NEAR_WORDS: [(&str, &str, &str); 24] = [
 
 /// Where the names of a line stand that match in either case: its verb, its option names without
 /// the `-`, and level's `all`.
-type Places = Vec<Range<usize>>;
+pub(crate) type Places = Vec<Range<usize>>;
 
-/// One line: about half are valid by the grammar, the others damaged, noise, at an edge, or next
-/// to a line with a shouted name.
+/// A line made by the grammar, its names in lower case.
+pub(crate) struct Made {
+    pub line: Vec<u8>,
+    pub names: Places,
+    /// Empty where the line is blank.
+    pub verb: &'static str,
+    /// Where another option can be put in: after the verb, and after each option.
+    pub gaps: Vec<usize>,
+}
+
+/// One line: about half are valid by the grammar, the others damaged, noise, at an edge, next to a
+/// line with a shouted name, or with an option that the verb can't have.
 pub fn line(rng: &mut Rng) -> Vec<u8> {
     match rng.below(100) {
         0..=49 => shouted_line(rng),
@@ -135,8 +103,9 @@ pub fn line(rng: &mut Rng) -> Vec<u8> {
             line
         }
         70..=79 => edge_line(rng),
-        80..=85 => near_miss(rng),
-        86..=93 => noise_of_pieces(rng),
+        80..=84 => near_miss(rng),
+        85..=88 => excluded_line(rng),
+        89..=94 => noise_of_pieces(rng),
         _ => noise_of_bytes(rng),
     }
 }
@@ -144,12 +113,14 @@ pub fn line(rng: &mut Rng) -> Vec<u8> {
 /// A line made by the grammar, its names in lower case: a command of the benchmark. Only rarely
 /// does it pass a limit of length or count.
 pub fn valid_line(rng: &mut Rng) -> Vec<u8> {
-    made_line(rng).0
+    made_line(rng).line
 }
 
 /// The same with its verb, option names and level's `all` in upper case: the benchmark's too.
 pub fn loud_line(rng: &mut Rng) -> Vec<u8> {
-    let (mut line, names) = made_line(rng);
+    let Made {
+        mut line, names, ..
+    } = made_line(rng);
     for name in names {
         line[name].make_ascii_uppercase();
     }
@@ -158,7 +129,9 @@ pub fn loud_line(rng: &mut Rng) -> Vec<u8> {
 
 /// A line made by the grammar, mostly with its names in lower case, otherwise each in any case.
 pub fn shouted_line(rng: &mut Rng) -> Vec<u8> {
-    let (mut line, names) = made_line(rng);
+    let Made {
+        mut line, names, ..
+    } = made_line(rng);
     if rng.percent(40) {
         shout_some(rng, &mut line, names);
     }
@@ -166,7 +139,7 @@ pub fn shouted_line(rng: &mut Rng) -> Vec<u8> {
 }
 
 /// Shouts most of the texts at these places.
-fn shout_some(rng: &mut Rng, line: &mut [u8], places: Places) {
+pub(crate) fn shout_some(rng: &mut Rng, line: &mut [u8], places: Places) {
     for place in places {
         if rng.percent(80) {
             shout(rng, &mut line[place]);
@@ -180,41 +153,63 @@ fn put_word(word: &str, line: &mut Vec<u8>, names: &mut Places) {
     line.extend_from_slice(word.as_bytes());
 }
 
-/// A line made by the grammar, its names in lower case, and their places.
-fn made_line(rng: &mut Rng) -> (Vec<u8>, Places) {
+/// A verb: show more often than others, and those that alone have an option a little.
+fn drawn_verb(rng: &mut Rng) -> &'static str {
+    match rng.below(20) {
+        0..=6 => "show",
+        7 => "load",
+        8 => "dump",
+        _ => *rng.pick(&VERBS),
+    }
+}
+
+/// A line made by the grammar; now and then a blank one.
+pub(crate) fn made_line(rng: &mut Rng) -> Made {
+    let mut made = Made {
+        line: Vec::new(),
+        names: Places::new(),
+        verb: "",
+        gaps: Vec::new(),
+    };
     if rng.percent(1) {
-        return (vec![b' '; rng.below(4)], Places::new());
+        made.line = vec![b' '; rng.below(4)];
+        return made;
     }
-    let (mut line, mut names) = (Vec::new(), Places::new());
-    let verb = *rng.pick(&VERBS);
-    put_word(verb, &mut line, &mut names);
-    let options = rng.mostly_small(12);
-    put_options(rng, options, &mut line, &mut names);
-    let others = rng.mostly_small(8);
-    if verb == "help" {
-        for _ in 0..others {
-            put_term(rng, &mut line, put_name);
-        }
-    } else {
-        if rng.percent(70) {
-            put_term(rng, &mut line, put_target);
-            for _ in 0..others {
-                put_term(rng, &mut line, put_property);
-            }
-        } else {
-            put_assignments(rng, others, &mut line);
-        }
+    made.verb = drawn_verb(rng);
+    put_word(made.verb, &mut made.line, &mut made.names);
+    let count = rng.mostly_small(12);
+    put_options(rng, count, &mut made);
+    put_others(rng, made.verb, &mut made.line);
+    if rng.percent(5) {
+        put_spaces(rng, &mut made.line);
     }
     if rng.percent(5) {
-        put_spaces(rng, &mut line);
-    }
-    if rng.percent(5) {
-        line.insert(0, b' ');
-        for name in &mut names {
+        made.line.insert(0, b' ');
+        for name in &mut made.names {
             *name = name.start + 1..name.end + 1;
         }
+        for gap in &mut made.gaps {
+            *gap += 1;
+        }
     }
-    (line, names)
+    made
+}
+
+/// A target and properties, or help's topics.
+fn put_others(rng: &mut Rng, verb: &str, line: &mut Vec<u8>) {
+    let count = rng.mostly_small(8);
+    if verb == "help" {
+        for _ in 0..count {
+            put_term(rng, line, put_name);
+        }
+    } else if rng.percent(70) {
+        put_term(rng, line, put_target);
+        for _ in 0..count {
+            put_term(rng, line, put_property);
+        }
+    } else {
+        put_assignments(rng, count, line);
+    }
 }
 
 /// A near miss of a shouted verb, option name or `all`: another byte in a letter's place; or another
@@ -240,7 +235,9 @@ pub fn near_miss(rng: &mut Rng) -> Vec<u8> {
 /// A line by the grammar with one letter of a name lost to a byte next to the letters, or by
 /// another bit than the one that makes its case.
 fn missed_name(rng: &mut Rng) -> Vec<u8> {
-    let (mut line, names) = made_line(rng);
+    let Made {
+        mut line, names, ..
+    } = made_line(rng);
     if names.is_empty() {
         return line;
     }
@@ -273,7 +270,7 @@ fn put_term(rng: &mut Rng, line: &mut Vec<u8>, put: fn(&mut Rng, &mut Vec<u8>)) 
     put(rng, line);
 }
 
-fn put_spaces(rng: &mut Rng, line: &mut Vec<u8>) {
+pub(crate) fn put_spaces(rng: &mut Rng, line: &mut Vec<u8>) {
     let count = if rng.percent(92) {
         1
     } else {
@@ -282,32 +279,53 @@ fn put_spaces(rng: &mut Rng, line: &mut Vec<u8>) {
     line.resize(line.len() + count, b' ');
 }
 
-/// So many different options in random order, each by its long or short name.
-fn put_options(rng: &mut Rng, count: usize, line: &mut Vec<u8>, names: &mut Places) {
-    let mut order: [usize; 12] = std::array::from_fn(|index| index);
-    for index in 0..count {
-        let other = rng.between(index, order.len() - 1);
-        order.swap(index, other);
-        let option = &OPTIONS[order[index]];
-        put_spaces(rng, line);
-        line.push(b'-');
-        let name = if rng.percent(50) {
-            option.long
-        } else {
-            option.short
-        };
-        put_word(name, line, names);
-        match option.argument {
-            Argument::None => {}
-            Argument::Location => put_term(rng, line, put_location),
-            Argument::Items => put_term(rng, line, put_items),
-            Argument::Keep => put_term(rng, line, put_number),
-            Argument::Level if rng.percent(30) => {
-                line.push(b' ');
-                put_word("all", line, names);
-            }
-            Argument::Level => put_term(rng, line, put_number),
+/// So many different options of the verb, or all that it has, in random order.
+fn put_options(rng: &mut Rng, count: usize, made: &mut Made) {
+    let mut options = options_of(made.verb);
+    made.gaps.push(made.line.len());
+    for index in 0..count.min(options.len()) {
+        let other = rng.between(index, options.len() - 1);
+        options.swap(index, other);
+        put_option_name(rng, options[index], &mut made.line, &mut made.names);
+        put_argument(rng, options[index], &mut made.line, &mut made.names);
+        made.gaps.push(made.line.len());
+    }
+}
+
+/// An option by its long or short name, with its `-`.
+pub(crate) fn put_option_name(
+    rng: &mut Rng,
+    option: &OptionRow,
+    line: &mut Vec<u8>,
+    names: &mut Places,
+) {
+    put_spaces(rng, line);
+    line.push(b'-');
+    let name = if rng.percent(50) {
+        option.long
+    } else {
+        option.short
+    };
+    put_word(name, line, names);
+}
+
+/// An argument of the option's form, if it takes one.
+pub(crate) fn put_argument(
+    rng: &mut Rng,
+    option: &OptionRow,
+    line: &mut Vec<u8>,
+    names: &mut Places,
+) {
+    match option.argument {
+        Argument::None => {}
+        Argument::Location => put_term(rng, line, put_location),
+        Argument::Items => put_term(rng, line, put_items),
+        Argument::Keep => put_term(rng, line, put_number),
+        Argument::Level if rng.percent(50) => {
+            line.push(b' ');
+            put_word("all", line, names);
         }
+        Argument::Level => put_term(rng, line, put_number),
     }
 }
 
@@ -558,8 +576,8 @@ fn line_of_about_1024(rng: &mut Rng) -> Vec<u8> {
 /// About 1,024 bytes of short option names and of lists whose items grow where they are written canonically.
 fn growing_line(rng: &mut Rng) -> Vec<u8> {
     let length = rng.between(1016, 1024);
-    let mut line = b"cd".to_vec();
-    for option in [" -x", " -v", " -f", " -h", " -w", " -l 1"] {
+    let mut line = b"show".to_vec();
+    for option in [" -x", " -v", " -f", " -h", " -w", " -a", " -l 1"] {
         if rng.percent(80) {
             line.extend_from_slice(option.as_bytes());
         }
@@ -661,23 +679,37 @@ fn edge_number(rng: &mut Rng) -> Vec<u8> {
 
 /// Options of which one may come twice, by the same name or the other, in any case.
 fn repeated_option(rng: &mut Rng) -> Vec<u8> {
-    let mut line = b"show".to_vec();
-    let mut names = Places::new();
+    let verb = drawn_verb(rng);
+    let mut made = Made {
+        line: verb.as_bytes().to_vec(),
+        names: Places::new(),
+        verb,
+        gaps: Vec::new(),
+    };
     for _ in 0..2 {
         let count = rng.between(1, 4);
-        put_options(rng, count, &mut line, &mut names);
+        put_options(rng, count, &mut made);
     }
     if rng.percent(40) {
-        shout_some(rng, &mut line, names);
+        shout_some(rng, &mut made.line, made.names);
     }
-    line
+    made.line
 }
+
+/// Verbs with an option that takes an argument, and one that takes none.
+const OPTIONS_AT_THE_END: [&str; 7] = [
+    "show -l",
+    "cd -keep",
+    "reset -o",
+    "show -display",
+    "load -source",
+    "dump -destination",
+    "show -f",
+];
 
 /// An option whose argument is missing, or is itself an option.
 fn option_at_the_end(rng: &mut Rng) -> Vec<u8> {
-    let mut line = b"show".to_vec();
-    let option = rng.pick_text(&[" -l", " -keep", " -o", " -display", " -source", " -f"]);
-    line.extend_from_slice(option);
+    let mut line = rng.pick_text(&OPTIONS_AT_THE_END).to_vec();
     let after = rng.pick_text(&["", " ", "   ", " -f", " -", " `-f", " -l 1"]);
     line.extend_from_slice(after);
     if rng.percent(30) {

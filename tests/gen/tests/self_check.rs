@@ -2,6 +2,8 @@
 
 use std::ops::Range;
 
+use clp_gen::excluded::{excluded, Excluded};
+use clp_gen::options::{excluded_by, is_excluded, options_of, VERBS};
 use clp_gen::shout::NEXT_TO_LETTERS;
 use clp_gen::{capture, line, tree, Rng};
 use clp_reader::canonical::write_canonical;
@@ -35,7 +37,7 @@ fn canonical_of(line: &[u8]) -> Result<Vec<u8>, Refusal> {
 fn a_canonical_writing_reads_back_and_stays_as_it_is() {
     let mut rng = Rng::new(1);
     let (mut accepted, mut too_long) = (0, 0);
-    let mut refused = [0; 20];
+    let mut refused = [0; 21];
     for _ in 0..LINES {
         let line = line::line(&mut rng);
         match canonical_of(&line) {
@@ -52,6 +54,7 @@ fn a_canonical_writing_reads_back_and_stays_as_it_is() {
     // About half, so that neither side is tried too seldom.
     assert!((LINES / 100 * 45..LINES / 100 * 65).contains(&accepted));
     assert!(refused[1..=14].iter().all(|&count| count > 50));
+    assert!(refused[20] > LINES / 50);
 }
 
 fn check_writing(line: &[u8], writing: &[u8]) {
@@ -290,6 +293,139 @@ fn near_misses_of_shouted_names_come_up() {
     assert!(sessions > 500 && bytes > 1000 && items > 200 && topics > 50);
 }
 
+/// The verb of a line that has one, in lower case.
+fn verb_of(line: &[u8]) -> Option<&'static str> {
+    let part = next_term(line, 0).ok()??;
+    let is = |verb: &&str| part.of(line).eq_ignore_ascii_case(verb.as_bytes());
+    VERBS.into_iter().find(is)
+}
+
+/// The terms of a line that rows 1 to 5 don't refuse.
+fn terms_of(line: &[u8]) -> Vec<&[u8]> {
+    let mut reader = TermReader::new(line);
+    let terms = std::iter::from_fn(|| reader.next_term().ok().flatten());
+    terms.map(|part| part.of(line)).collect()
+}
+
+#[test]
+fn the_options_of_the_generator_are_those_of_table_15() {
+    let had = VERBS.map(|verb| options_of(verb).len());
+    let not = VERBS.map(|verb| excluded_by(verb).len());
+    assert_eq!(had, [6, 6, 7, 8, 5, 6, 8, 7, 7, 10, 7, 7, 6]);
+    assert!(had.iter().zip(not).all(|(had, not)| had + not == 12));
+    assert_eq!(had.iter().sum::<usize>(), 90);
+    for verb in VERBS {
+        let term = |name: &str| format!("-{name}").into_bytes();
+        for row in options_of(verb) {
+            assert!(!is_excluded(verb, &term(row.long)) && !is_excluded(verb, &term(row.short)));
+        }
+        for row in excluded_by(verb) {
+            assert!(is_excluded(verb, &term(row.long)) && is_excluded(verb, &term(row.short)));
+            assert!(!is_excluded(verb, row.long.as_bytes()));
+        }
+    }
+}
+
+/// By the generator's own table: an option that the verb can't have, put in among good options, is
+/// 20 at its term, and the line without it is good.
+#[test]
+fn one_excluded_option_makes_a_good_line_20_at_its_term() {
+    let mut rng = Rng::new(17);
+    let (mut lines, mut passed) = (0, 0);
+    let mut pairs = std::collections::BTreeSet::new();
+    for _ in 0..LINES / 2 {
+        let Excluded {
+            line,
+            place,
+            without,
+        } = excluded(&mut rng);
+        let shown = line.escape_ascii();
+        let term = next_term(&line, place).ok().flatten();
+        let verb = verb_of(&without).unwrap();
+        // Rarely a limit of length or count is passed, by one of them or by both.
+        let Some((part, Ok(_))) = term.zip(Some(records_of(&without))) else {
+            passed += 1;
+            continue;
+        };
+        assert_eq!(usize::from(part.position), place, "{shown}");
+        assert!(is_excluded(verb, part.of(&line)), "{shown}");
+        let expected = Refusal {
+            number: 20,
+            place: place as u16,
+        };
+        assert_eq!(records_of(&line), Err(expected), "{shown}");
+        assert_eq!(canonical_of(&line), Err(expected), "{shown}");
+        assert_eq!(target_part(&line).length, 0, "{shown}");
+        pairs.insert((verb, part.of(&line).to_ascii_lowercase()));
+        lines += 1;
+    }
+    println!("lines with one excluded option {lines}, past a limit {passed}");
+    assert!(lines > LINES / 100 * 45, "{lines}");
+    // Each pair that the table excludes, by its long and its short name.
+    let of_verb = |verb| excluded_by(verb).into_iter();
+    let names = VERBS.into_iter().flat_map(of_verb);
+    let names = names.map(|row| 1 + usize::from(row.short != row.long));
+    assert_eq!(pairs.len(), names.sum::<usize>());
+}
+
+/// No line that is accepted has an option that its verb can't have, by the generator's own table.
+#[test]
+fn an_accepted_line_has_options_of_its_verb_alone() {
+    let mut options = 0;
+    accepted_lines(&mut Rng::new(18), LINES / 2, |_, line, bytes| {
+        let Some(verb) = verb_of(line) else {
+            return;
+        };
+        for (name, place) in names_of(line, bytes) {
+            if matches!(name, Name::Option) {
+                assert!(!is_excluded(verb, &line[place]), "{}", line.escape_ascii());
+                options += 1;
+            }
+        }
+    });
+    assert!(options > LINES / 5, "{options}");
+}
+
+#[test]
+fn excluded_options_come_up_in_each_position() {
+    let mut rng = Rng::new(19);
+    // First, after others, twice, without an argument, with a bad one, after the options, as an
+    // argument.
+    let mut met = [0; 7];
+    for _ in 0..LINES {
+        let line = line::line(&mut rng);
+        let (Some(verb), Err(refusal)) = (verb_of(&line), records_of(&line)) else {
+            continue;
+        };
+        let place = usize::from(refusal.place);
+        let Ok(Some(part)) = next_term(&line, place) else {
+            continue;
+        };
+        let term = part.of(&line);
+        match refusal.number {
+            11 => met[5] += usize::from(is_excluded(verb, term)),
+            9 => met[6] += usize::from(is_excluded(verb, term)),
+            20 => {
+                let before = terms_of(&line[..place]).len();
+                let after = terms_of(&line[place + term.len()..]);
+                met[0] += usize::from(before == 1);
+                met[1] += usize::from(before > 1);
+                met[2] += usize::from(after.iter().any(|term| is_excluded(verb, term)));
+                // By what the option would be with show, load or dump, which have it.
+                let of = |verb: &str| [verb.as_bytes(), b" ", &line[place..]].concat();
+                let owner = ["show", "load", "dump"].map(|owner| read(&of(owner), &mut [0; 399]));
+                let number =
+                    |answer: &Result<_, Refusal>| answer.err().map(|refusal| refusal.number);
+                met[3] += usize::from(owner.iter().any(|answer| number(answer) == Some(9)));
+                met[4] += usize::from(owner.iter().any(|answer| number(answer) == Some(10)));
+            }
+            _ => {}
+        }
+    }
+    println!("excluded: first, later, twice, without argument, with a bad one, late, as argument {met:?}");
+    assert!(met.iter().all(|&count| count > 200), "{met:?}");
+}
+
 #[test]
 fn readings_fit_their_room_exactly_and_name_parts_in_order() {
     let mut rng = Rng::new(3);
@@ -301,7 +437,7 @@ fn readings_fit_their_room_exactly_and_name_parts_in_order() {
             assert_eq!(target_part(&line).length, 0);
             continue;
         };
-        assert!(reading.length <= 399);
+        assert!(reading.length <= 387);
         assert!(room[reading.length..].iter().all(|&byte| byte == CANARY));
         assert_eq!(target_part(&line), reading.target);
         check_room(&line, &room[..reading.length]);
