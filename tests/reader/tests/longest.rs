@@ -2,9 +2,11 @@
 
 use clp_reader::canonical::write_canonical;
 
-/// The bytes of a line, and of its writing's bound.
+/// The bytes of a line, and of the longest writing.
 const LINE: usize = 1024;
-const BOUND: usize = 1978;
+const REACHED: usize = 1976;
+
+const HEADER: &str = include_str!("../../../include/clp.h");
 
 const MOST_ITEMS: usize = 16;
 
@@ -31,7 +33,7 @@ fn growth_of_values() -> Vec<usize> {
     };
     for bytes in 1..LINE {
         note(" a=".len() + bytes, item_growth(bytes));
-        // a source or destination gains no quotes
+        // a source or destination gains no quotes; counted with every verb, and never the best
         note(" -source ".len() + bytes, bytes / 2);
         for items in 1..=MOST_ITEMS.min(bytes) {
             note(" a=()".len() + bytes + items - 1, list_growth(items, bytes));
@@ -46,49 +48,101 @@ fn growth_of_values() -> Vec<usize> {
 }
 
 /// What an option by its short name costs at least and gains. The argument of display and output is counted among the values.
-const OPTIONS: [(usize, usize); 10] = [
-    (" -a".len(), "ll".len()),
-    (" -d".len(), "isplay".len()),
-    (" -x".len(), "examine".len() - 1),
-    (" -f".len(), "orce".len()),
-    (" -h".len(), "elp".len()),
-    (" -k 1".len(), "eep".len()),
-    (" -l 1".len(), "evel".len()),
-    (" -o".len(), "utput".len()),
-    (" -v".len(), "ersion".len()),
-    (" -w".len(), "ait".len()),
+const OPTIONS: [(u8, usize, usize); 10] = [
+    (b'a', " -a".len(), "ll".len()),
+    (b'd', " -d".len(), "isplay".len()),
+    (b'x', " -x".len(), "examine".len() - 1),
+    (b'f', " -f".len(), "orce".len()),
+    (b'h', " -h".len(), "elp".len()),
+    (b'k', " -k 1".len(), "eep".len()),
+    (b'l', " -l 1".len(), "evel".len()),
+    (b'o', " -o".len(), "utput".len()),
+    (b'v', " -v".len(), "ersion".len()),
+    (b'w', " -w".len(), "ait".len()),
 ];
 
-/// The most bytes that the writing of a line of so many bytes can have, by the pieces above.
-fn most_written(values: &[usize], bytes: usize) -> usize {
-    let choices = 0..1_usize << OPTIONS.len();
+/// The verbs, each with the options of a short name that it can have.
+const VERBS: [(&str, &str); 13] = [
+    ("cd", "xhkovw"),
+    ("create", "xhkovw"),
+    ("delete", "xfhkovw"),
+    ("dump", "xfhkovw"),
+    ("exit", "xhkov"),
+    ("help", "xhkovw"),
+    ("load", "xfhkovw"),
+    ("reset", "xfhkovw"),
+    ("set", "xfhkovw"),
+    ("show", "adxfhklovw"),
+    ("start", "xfhkovw"),
+    ("stop", "xfhkovw"),
+    ("version", "xhkovw"),
+];
+
+/// The most bytes that the writing of a line of so many bytes with this verb can have, by the pieces above.
+fn most_written_by((verb, letters): (&str, &str), values: &[usize], bytes: usize) -> usize {
+    let options: Vec<_> = OPTIONS.iter().filter(|option| letters.as_bytes().contains(&option.0)).collect();
+    let choices = 0..1_usize << options.len();
     let written = choices.filter_map(|choice| {
-        let chosen = (0..OPTIONS.len()).filter(|index| choice >> index & 1 == 1).map(|index| OPTIONS[index]);
-        let (cost, growth) = chosen.fold(("cd".len(), 0), |sum, option| (sum.0 + option.0, sum.1 + option.1));
+        let chosen = options.iter().enumerate().filter(|(index, _)| choice >> index & 1 == 1);
+        let (cost, growth) = chosen.fold((verb.len(), 0), |sum, (_, option)| (sum.0 + option.1, sum.1 + option.2));
         Some(bytes + growth + values[bytes.checked_sub(cost)?])
     });
     written.max().unwrap_or(bytes)
 }
 
+/// The same with any verb.
+fn most_written(values: &[usize], bytes: usize) -> usize {
+    VERBS.iter().map(|&verb| most_written_by(verb, values, bytes)).max().unwrap()
+}
+
 #[test]
-fn no_choice_of_pieces_passes_the_bound_and_one_reaches_it() {
-    assert_eq!(most_written(&growth_of_values(), LINE), BOUND);
-    let list = |items: usize| format!("a=({})", vec!["`x"; items].join(","));
-    let line = format!("cd -x -v -f -h -w -o {} -d {},{}", list(16), list(3), vec![list(16); 18].join(","));
+fn no_choice_of_pieces_passes_the_most_and_one_line_reaches_it() {
+    assert_eq!(most_written(&growth_of_values(), LINE), REACHED);
+    let list = |items: &[&str]| format!("a=({})", items.join(","));
+    let most = list(&["`x"; 16]);
+    let rest = list(&["`x", ":", ":"]);
+    let line = format!("show -x -v -f -h -w -o {most} -d {rest},{}", vec![&most[..]; 18].join(","));
     assert_eq!(line.len(), LINE);
-    assert_eq!(write_canonical(line.as_bytes(), &mut [0; BOUND]), Ok(BOUND));
+    assert_eq!(write_canonical(line.as_bytes(), &mut [0; REACHED]), Ok(REACHED));
+    let refused = write_canonical(line.as_bytes(), &mut [0; REACHED - 1]).unwrap_err();
+    assert_eq!((refused.number, refused.place), (19, 0));
+}
+
+/// The header's room is enough: it is what could be reached before a verb had options of its own.
+#[test]
+fn the_headers_room_is_enough() {
+    let constant = HEADER.lines().find_map(|line| line.trim_start().strip_prefix("CLP_CANONICAL_BYTES = "));
+    let digits: String = constant.unwrap().chars().take_while(char::is_ascii_digit).collect();
+    assert!(REACHED <= digits.parse().unwrap(), "{digits}");
+}
+
+/// Each verb has the options that are said here and no other, by what the reader refuses as 20.
+#[test]
+fn verbs_have_these_options() {
+    for (verb, letters) in VERBS {
+        for (letter, ..) in OPTIONS {
+            let argument = if b"dklo".contains(&letter) { "all" } else { "" };
+            let argument = if letter == b'k' { "1" } else { argument };
+            let line = format!("{verb} -{} {argument}", char::from(letter));
+            let refused = write_canonical(line.as_bytes(), &mut [0; 64]).err().map(|refusal| refusal.number);
+            let expected = (!letters.contains(char::from(letter))).then_some(20);
+            assert_eq!(refused, expected, "{line}");
+        }
+    }
 }
 
 /// Every line of a beginning, so many bytes of those that matter, and an end: none is written longer than the pieces allow; `cd -x` and `cd -x -v` are written as long.
 #[test]
 fn short_lines_are_written_no_longer_than_the_pieces_allow() {
     let values = growth_of_values();
-    for (beginning, most, end) in [("cd", 6, ""), ("cd a=(", 5, ")"), ("cd -d a=:,", 5, ""), ("cd -source ", 5, "")] {
+    for (beginning, most, end) in [("cd", 6, ""), ("cd a=(", 5, ")"), ("show", 6, ""), ("show -d a=:,", 5, ""), ("load -source ", 5, "")] {
+        let verb = VERBS.iter().find(|(verb, _)| beginning.split(' ').next() == Some(verb));
         for length in 0..=most {
             let longest = longest_writing(beginning, length, end);
-            let allowed = most_written(&values, beginning.len() + length + end.len());
+            let allowed = most_written_by(*verb.unwrap(), &values, beginning.len() + length + end.len());
             assert!(longest <= allowed, "{beginning} {length}: {longest} of {allowed}");
-            assert!(longest == allowed || beginning != "cd" || length % 3 != 0, "{length}: {longest} of {allowed}");
+            let is_reached = ["cd", "show"].contains(&beginning) && length % 3 == 0;
+            assert!(longest == allowed || !is_reached, "{beginning} {length}: {longest} of {allowed}");
         }
     }
 }
