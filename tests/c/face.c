@@ -78,6 +78,27 @@ static void either_case(void)
     CHECK(is(clp_resolve(TEXT("CPU4"), TREE, sizeof TREE, 1, list, 2), CLP_REFUSED_CHILD, 0) && list[0] == 7);
 }
 
+/* An option that the verb can't have: refused at its term, by either name and in either case, after 7 and before 8, 9 and 10; where it is no option, never. */
+static void not_for_verb(void)
+{
+    static const uint8_t refusal[] = {0x05, 0x14, 0x00, 0x03};
+    uint8_t buffer[CLP_LINE_BYTES];
+    CHECK(is(clp_read(TEXT("cd -f"), lend(), sizeof room), CLP_REFUSED_NOT_FOR_VERB, 3) && unchanged());
+    CHECK(is(clp_read(TEXT("EXIT -WAIT"), lend(), sizeof room), CLP_REFUSED_NOT_FOR_VERB, 5) && unchanged());
+    CHECK(is(clp_canonical(TEXT("create -source x"), lend(), sizeof room), CLP_REFUSED_NOT_FOR_VERB, 7) && unchanged());
+    CHECK(is(clp_read(TEXT("cd -zz -f"), lend(), sizeof room), CLP_REFUSED_OPTION, 3) && unchanged());
+    CHECK(is(clp_read(TEXT("cd -f -f"), lend(), sizeof room), CLP_REFUSED_NOT_FOR_VERB, 3) && unchanged());
+    CHECK(is(clp_read(TEXT("cd -x -f -x"), lend(), sizeof room), CLP_REFUSED_NOT_FOR_VERB, 6) && unchanged());
+    CHECK(is(clp_read(TEXT("set -level"), lend(), sizeof room), CLP_REFUSED_NOT_FOR_VERB, 4) && unchanged());
+    CHECK(is(clp_read(TEXT("set -level 02"), lend(), sizeof room), CLP_REFUSED_NOT_FOR_VERB, 4) && unchanged());
+    CHECK(is(clp_read(TEXT("cd / -f"), lend(), sizeof room), CLP_REFUSED_LATE_OPTION, 5) && unchanged());
+    CHECK(is(clp_read(TEXT("show -level -source x"), lend(), sizeof room), CLP_REFUSED_NO_ARGUMENT, 12) && unchanged());
+    CHECK(is(clp_read(TEXT("cd -f"), lend(), 0), CLP_REFUSED_NOT_FOR_VERB, 3) && unchanged());
+    CHECK(clp_target(TEXT("cd -f /")).position == 0 && clp_target(TEXT("cd -f /")).length == 0);
+    CHECK(is_joined(clp_list(0, buffer, sizeof buffer, TEXT("cd -f\n"), lend(), sizeof room), 0, CLP_REFUSAL_BYTES, 6, 0));
+    CHECK(memcmp(room, refusal, sizeof refusal) == 0);
+}
+
 static void worked_tree(void)
 {
     uint16_t list[2] = {7, 7};
@@ -106,14 +127,14 @@ static void numbers(void)
     CHECK(number_in("load", 0) == CLP_VERB_LOAD && number_in("reset", 0) == CLP_VERB_RESET && number_in("set", 0) == CLP_VERB_SET);
     CHECK(number_in("show", 0) == CLP_VERB_SHOW && number_in("start", 0) == CLP_VERB_START && number_in("stop", 0) == CLP_VERB_STOP);
     CHECK(number_in("version", 0) == CLP_VERB_VERSION);
-    CHECK(number_in("cd -all", 2) == CLP_OPTION_ALL && number_in("cd -a", 2) == CLP_OPTION_ALL);
-    CHECK(number_in("cd -destination x", 2) == CLP_OPTION_DESTINATION && number_in("cd -source x", 2) == CLP_OPTION_SOURCE);
-    CHECK(number_in("cd -display x", 2) == CLP_OPTION_DISPLAY && number_in("cd -d x", 2) == CLP_OPTION_DISPLAY);
+    CHECK(number_in("show -all", 2) == CLP_OPTION_ALL && number_in("show -a", 2) == CLP_OPTION_ALL);
+    CHECK(number_in("dump -destination x", 2) == CLP_OPTION_DESTINATION && number_in("load -source x", 2) == CLP_OPTION_SOURCE);
+    CHECK(number_in("show -display x", 2) == CLP_OPTION_DISPLAY && number_in("show -d x", 2) == CLP_OPTION_DISPLAY);
     CHECK(number_in("cd -examine", 2) == CLP_OPTION_EXAMINE && number_in("cd -x", 2) == CLP_OPTION_EXAMINE);
-    CHECK(number_in("cd -force", 2) == CLP_OPTION_FORCE && number_in("cd -f", 2) == CLP_OPTION_FORCE);
+    CHECK(number_in("reset -force", 2) == CLP_OPTION_FORCE && number_in("show -f", 2) == CLP_OPTION_FORCE);
     CHECK(number_in("cd -help", 2) == CLP_OPTION_HELP && number_in("cd -h", 2) == CLP_OPTION_HELP);
     CHECK(number_in("cd -keep 1", 2) == CLP_OPTION_KEEP && number_in("cd -k 1", 2) == CLP_OPTION_KEEP);
-    CHECK(number_in("cd -level 1", 2) == CLP_OPTION_LEVEL && number_in("cd -l 1", 2) == CLP_OPTION_LEVEL);
+    CHECK(number_in("show -level 1", 2) == CLP_OPTION_LEVEL && number_in("show -l 1", 2) == CLP_OPTION_LEVEL);
     CHECK(number_in("cd -output x", 2) == CLP_OPTION_OUTPUT && number_in("cd -o x", 2) == CLP_OPTION_OUTPUT);
     CHECK(number_in("cd -version", 2) == CLP_OPTION_VERSION && number_in("cd -v", 2) == CLP_OPTION_VERSION);
     CHECK(number_in("cd -wait", 2) == CLP_OPTION_WAIT && number_in("cd -w", 2) == CLP_OPTION_WAIT);
@@ -139,7 +160,7 @@ static void states(void)
     CHECK(is(clp_end(2), 0, 1) && is(clp_end(CLP_STATE_GRAVE), 0, 1) && is(clp_end(CLP_STATE_CR), 0, 0) && is(clp_end(0), 0, 0));
 }
 
-/* ---- the sizes: each reached by some input, and with one byte less refused with nothing changed */
+/* ---- the sizes: what is reached by some input, and with one byte less refused with nothing changed; the header's rooms are enough for it */
 
 static void sizes(void)
 {
@@ -148,16 +169,20 @@ static void sizes(void)
     static uint16_t list[CLP_TREE_NODES];
     size_t n = most_records(line), i;
     clp_answer a;
-    CHECK(n <= CLP_LINE_BYTES);
-    CHECK(is(clp_read(line, n, lend(), CLP_READING_BYTES - 1), CLP_REFUSED_ROOM, 0) && unchanged());
-    CHECK(is(clp_read(line, n, room, CLP_READING_BYTES), 0, CLP_READING_BYTES));
-    a = clp_records_text(room, CLP_READING_BYTES, text, sizeof text);
+    CHECK(n <= CLP_LINE_BYTES && MOST_RECORDS == 387);
+    CHECK(is(clp_read(line, n, lend(), MOST_RECORDS - 1), CLP_REFUSED_ROOM, 0) && unchanged());
+    CHECK(is(clp_read(line, n, room, CLP_READING_BYTES), 0, MOST_RECORDS));
+    CHECK(memcmp(room + MOST_RECORDS, kept + MOST_RECORDS, sizeof room - MOST_RECORDS) == 0);
+    CHECK(is(clp_read(line, n, lend(), MOST_RECORDS), 0, MOST_RECORDS));
+    a = clp_records_text(room, MOST_RECORDS, text, sizeof text);
     CHECK(a.number == 0 && a.value <= CLP_TEXT_BYTES);
 
     n = most_written(line);
     CHECK(n == CLP_LINE_BYTES);
-    CHECK(is(clp_canonical(line, n, lend(), CLP_CANONICAL_BYTES - 1), CLP_REFUSED_ROOM, 0) && unchanged());
-    CHECK(is(clp_canonical(line, n, room, CLP_CANONICAL_BYTES), 0, CLP_CANONICAL_BYTES));
+    CHECK(is(clp_canonical(line, n, lend(), MOST_WRITTEN - 1), CLP_REFUSED_ROOM, 0) && unchanged());
+    CHECK(is(clp_canonical(line, n, room, CLP_CANONICAL_BYTES), 0, MOST_WRITTEN));
+    CHECK(memcmp(room + MOST_WRITTEN, kept + MOST_WRITTEN, sizeof room - MOST_WRITTEN) == 0);
+    CHECK(is(clp_canonical(line, n, lend(), MOST_WRITTEN), 0, MOST_WRITTEN));
 
     memset(blanks, CLP_KIND_BLANK, sizeof blanks);
     CHECK(is(clp_records_text(blanks, sizeof blanks, lend(), CLP_TEXT_BYTES - 1), CLP_REFUSED_ROOM, 0) && unchanged());
@@ -275,6 +300,7 @@ int main(void)
 {
     worked_records();
     either_case();
+    not_for_verb();
     worked_tree();
     numbers();
     states();

@@ -55,6 +55,7 @@ static void show(const char *name, void (*function)(void), size_t most)
 static void on_line(const char *name)
 {
     printf("stack: on %s\n", name);
+    CHECK(clp_read(line, line_len, records, sizeof records).number == 0);
     memcpy(part, line, line_len);
     part[line_len] = '\n';
     part_len = line_len + 1;
@@ -77,7 +78,7 @@ int main(void)
     on_line("the line with the most records");
     line_len = most_written(line);
     on_line("the line with the longest writing");
-    line_len = add(line, 0, "set -source `-a` b\\c -destination a -keep 4294967295 /a1/../b* a=\"x y\" b==(c,\"d\") c");
+    line_len = add(line, 0, "load -source `-a` b\\c -output a,d=(e,\"f g\") -keep 4294967295 /a1/../b* a=\"x y\" b==(c,\"d\") c");
     on_line("a line with every form");
     fan(tree, CLP_TREE_NODES);
     printf("stack: on trees of %d nodes\n", CLP_TREE_NODES);

@@ -12,34 +12,41 @@ static size_t add(uint8_t *line, size_t at, const char *text)
     return at + strlen(text);
 }
 
-/* A line whose records take CLP_READING_BYTES: every option, a target, 32 properties. */
+/* The most bytes that a line's records and its writing come to. The header's rooms have a little more: no verb has every option. */
+enum {
+    MOST_RECORDS = CLP_VERB_BYTES + 10 * CLP_OPTION_BYTES + CLP_TARGET_BYTES + CLP_LINE_PROPERTIES * CLP_PROPERTY_BYTES,
+    MOST_WRITTEN = 1976 /* tests/reader/tests/longest.rs finds it */
+};
+
+/* A line whose records take MOST_RECORDS: the ten options that show has, a target, 32 properties. */
 static size_t most_records(uint8_t *line)
 {
-    size_t at = add(line, 0, "set -a -destination x -d a -x -f -h -k 1 -l 1 -o a -source x -v -w .");
+    size_t at = add(line, 0, "show -a -d a -x -f -h -k 1 -l 1 -o a -v -w .");
     int i;
     for (i = 0; i < CLP_LINE_PROPERTIES; i++)
         at = add(line, at, " abcdefghij==klmnopqrstuvw");
     return at;
 }
 
-/* An item of display or output: a list of so many items `x, each of which grows from two bytes to five. */
-static size_t add_list(uint8_t *line, size_t at, int items)
+/* An item of display or output: a list of 16 items `x, each of which grows from two bytes to five. */
+static size_t add_list(uint8_t *line, size_t at)
 {
     int i;
     at = add(line, at, "a=(`x");
-    for (i = 1; i < items; i++)
+    for (i = 1; i < 16; i++)
         at = add(line, at, ",`x");
     return add(line, at, ")");
 }
 
-/* The line of CLP_LINE_BYTES whose writing has CLP_CANONICAL_BYTES: options with short names, and lists of 16 items. */
+/* A line of CLP_LINE_BYTES whose writing has MOST_WRITTEN: options with short names, and lists of 16 items; what is left is a list whose items grow by
+ * three bytes, two and two. */
 static size_t most_written(uint8_t *line)
 {
     int i;
-    size_t at = add_list(line, add(line, 0, "cd -x -v -f -h -w -o "), 16);
-    at = add_list(line, add(line, at, " -d "), 3);
+    size_t at = add_list(line, add(line, 0, "show -x -v -f -h -w -o "));
+    at = add(line, at, " -d a=(`x,:,:)");
     for (i = 0; i < 18; i++)
-        at = add_list(line, add(line, at, ","), 16);
+        at = add_list(line, add(line, at, ","));
     return at;
 }
 
