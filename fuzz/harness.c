@@ -129,7 +129,28 @@ static void on_records(const uint8_t *records, size_t n, size_t room_len)
     check(full.number == 0 && full.value > room_len ? is(a, CLP_REFUSED_ROOM, 0) : same(a, full));
 }
 
-/* The records of a line that is not refused: parts in order inside the line, the verb and the options in its first terms. */
+/* Whether a verb can have an option. */
+static int has(unsigned verb, unsigned option)
+{
+    switch (option) {
+    case CLP_OPTION_ALL:
+    case CLP_OPTION_DISPLAY:
+    case CLP_OPTION_LEVEL:
+        return verb == CLP_VERB_SHOW;
+    case CLP_OPTION_DESTINATION:
+        return verb == CLP_VERB_DUMP;
+    case CLP_OPTION_SOURCE:
+        return verb == CLP_VERB_LOAD;
+    case CLP_OPTION_FORCE:
+        return verb != CLP_VERB_CD && verb != CLP_VERB_CREATE && verb != CLP_VERB_EXIT && verb != CLP_VERB_HELP && verb != CLP_VERB_VERSION;
+    case CLP_OPTION_WAIT:
+        return verb != CLP_VERB_EXIT;
+    default:
+        return option <= CLP_OPTION_WAIT;
+    }
+}
+
+/* The records of a line that is not refused: parts in order inside the line, the verb and the options in its first terms, options of that verb alone. */
 static void on_reading(const uint8_t *line, size_t n, const uint8_t *records, size_t records_len)
 {
     size_t at = 0, i = 0, length;
@@ -151,7 +172,7 @@ static void on_reading(const uint8_t *line, size_t n, const uint8_t *records, si
             check(i == 0 && r[1] >= CLP_VERB_CD && r[1] <= CLP_VERB_VERSION);
             break;
         case CLP_KIND_OPTION:
-            check(line[t.value] == '-' && r[1] >= CLP_OPTION_ALL && r[1] <= CLP_OPTION_WAIT && CLP_FIELD(r + 2) >= at);
+            check(line[t.value] == '-' && r[1] >= CLP_OPTION_ALL && has(records[1], r[1]) && CLP_FIELD(r + 2) >= at);
             at = CLP_FIELD(r + 2) + CLP_FIELD(r + 4);
             break;
         case CLP_KIND_TARGET:
@@ -177,7 +198,8 @@ static void on_line(const uint8_t *bytes, size_t n, size_t room_len, size_t plac
     clp_term t;
     clp_part target;
     memcpy(records, written(&room, full), sizeof records);
-    check(full.number <= CLP_REFUSED_PROPERTIES && full.value <= (full.number == 0 ? CLP_READING_BYTES : n));
+    check(full.number <= CLP_REFUSED_PROPERTIES || (full.number == CLP_REFUSED_NOT_FOR_VERB && full.value < n && line[full.value] == '-'));
+    check(full.value <= (full.number == 0 ? CLP_READING_BYTES : n));
     a = clp_read(line, n, lend_room(&room, room_len, 4), room_len);
     written(&room, a);
     check(full.number == 0 && full.value > room_len ? is(a, CLP_REFUSED_ROOM, 0) : same(a, full));

@@ -13,7 +13,7 @@ use clp_reader::terms::{next_term, write_stood_for};
 #[derive(Default)]
 pub struct Counts {
     accepted: usize,
-    refused: [usize; 20],
+    refused: [usize; 21],
     longest: usize,
 }
 
