@@ -2,7 +2,7 @@
 
 use std::ops::Range;
 
-use clp_gen::excluded::{excluded, Excluded};
+use clp_gen::excluded::{excluded, excluded_line, Excluded};
 use clp_gen::options::{excluded_by, is_excluded, options_of, VERBS};
 use clp_gen::shout::NEXT_TO_LETTERS;
 use clp_gen::{capture, line, tree, Rng};
@@ -392,8 +392,8 @@ fn excluded_options_come_up_in_each_position() {
     // First, after others, twice, without an argument, with a bad one, after the options, as an
     // argument.
     let mut met = [0; 7];
-    for _ in 0..LINES {
-        let line = line::line(&mut rng);
+    for _ in 0..LINES / 4 {
+        let line = excluded_line(&mut rng);
         let (Some(verb), Err(refusal)) = (verb_of(&line), records_of(&line)) else {
             continue;
         };
@@ -423,7 +423,7 @@ fn excluded_options_come_up_in_each_position() {
         }
     }
     println!("excluded: first, later, twice, without argument, with a bad one, late, as argument {met:?}");
-    assert!(met.iter().all(|&count| count > 200), "{met:?}");
+    assert!(met.iter().all(|&count| count > LINES / 100), "{met:?}");
 }
 
 #[test]
