@@ -279,9 +279,10 @@ static void on_capture(const uint8_t *capture, size_t n, size_t cut)
         a = clp_read(line, (size_t)x.value, lend_room(&room, CLP_READING_BYTES, 11), CLP_READING_BYTES);
         if (x.number != 0)
             a.number = x.number, a.value = x.value;
-        if (a.number == 0)
+        if (a.number == 0) {
             check(y.value == a.value && memcmp(records, wrote(&room, (size_t)a.value), (size_t)a.value) == 0);
-        else
+            on_reading(line, (size_t)x.value, records, (size_t)a.value);
+        } else
             check(y.value == CLP_REFUSAL_BYTES && records[0] == CLP_KIND_REFUSAL && records[1] == a.number && CLP_FIELD(records + 2) == a.value);
         for (size_t i = 0; i < x.value; i++)
             check(capture[placed.places[i]] == line[i] && placed.places[i] < placed.places[i + 1]);
