@@ -1045,6 +1045,18 @@ mod options_of_a_verb {
         format!("verb {verb}|option {option} {position} {length}")
     }
 
+    /// The page for users has the same table.
+    #[test]
+    fn the_table_of_docs_dialect_is_this_one() {
+        const DIALECT: &str = include_str!("../../../docs/DIALECT.md");
+        let of_page = |row: &str| row.starts_with('|') && cells(row).len() == 14;
+        let page: Vec<_> = DIALECT.lines().filter(|row| of_page(row)).map(cells).collect();
+        let table: Vec<_> = TABLE_15.lines().map(cells).collect();
+        assert_eq!(page.len(), table.len() + 1, "a head, a rule and the rows");
+        assert_eq!(page[0][1..], table[0][1..]);
+        assert_eq!(page[2..], table[1..]);
+    }
+
     #[test]
     fn all_pairs_by_each_name() {
         let (mut had, mut excluded, mut lines) = (0, 0, 0);
