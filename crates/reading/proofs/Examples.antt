@@ -2,14 +2,15 @@
 use Prim.Native.Nat.{ℕ}
 use Prim.Native.String.{String}
 use mathlib.Core.List.{List, [], _∷_, map}
-use mathlib.Core.Bool.{false}
-use lib.ListN.{replicate}
+use mathlib.Core.Bool.{true, false}
+use lib.ListN.{set, replicate}
 use mathlib.Core.Path.{_≡_, refl}
 use Rattle.text.specs.declared.Answer.the-variants.{Refused}
 use Rattle.text.specs.Room.{wrote, fitted, filled}
 use Rattle.text.specs.Bytes.{bytes, oneOf, sameBytes, isWord}
 use Rattle.text.specs.Lists.{allOf, anyOf, upTo, past, runLen, parts, walk, every}
 use Rattle.text.specs.Decimal.{valueFrom, isDecimal}
+use Rattle.terms.specs.declared.Mode.the-variants.{Out}
 use Rattle.terms.specs.Signs.{twelve, two, after, gives, signs, raws, stands}
 use Rattle.terms.specs.Terms.{termsFrom, termsOf}
 use Rattle.terms.specs.Rows.{longFlaw, oddFlaw, endMode, openedAt, openFlaw, manyFrom, manyFlaw, lexicalOf}
@@ -17,10 +18,11 @@ use Rattle.words.specs.Words.{verbNames, longNames, shortNames, lower, lowered,
 use Rattle.support.specs.Table15.{rows, cellOf, allowed}
 use Rattle.forms.specs.Forms.{isName, isKeep, isLevel, isPlace, isPlainSign, endsQuote, isText, itemsIn, isList, listOf, textOf, valueOf, entryOf, entryParts, entriesOf, saidOf, propertyOf, topicOf}
 use Rattle.forms.specs.Targets.{tagLen, isNumbered, isStarred, isSegment, areSegments, segmentsOf, pathOf, targetOf}
-use Rattle.reading.specs.Reading.{decideVerb, decideOption, decideArgument, decideTarget, decideProperty, decideAfter, decide, walkTerms, readingOf}
+use Rattle.reading.specs.Reading.{state, refuses, decideVerb, decideOption, decideArgument, decideTarget, decideProperty, decideAfter, decide, walkTerms, readingOf}
 use Rattle.reading.specs.Records.{span, recordsOf, listedIn, refusalRecord, cutRecord, targetSpan, targetIn, targetPart}
 use Rattle.reading.specs.Cursor.{firstCursor}
-use Rattle.reading.specs.declared.Phase.the-variants.{First}
+use Rattle.reading.specs.declared.Phase.the-variants.{First, Options}
+use Rattle.reading.specs.Order.{holds, order, isFirstOf}
 use Rattle.reading.specs.Lines.{lines, linesByVerb}
 
 -- of each line with its answer: the line's records are that answer
@@ -32,6 +34,14 @@ lines-answers = refl
 pub lines-by-verb : map (λ (l : String × List ℕ). listedIn (readingOf (bytes (l .0)))) linesByVerb ≡ map (λ (l : String × List ℕ). l .1) linesByVerb
 unfolding linesByVerb bytes oneOf sameBytes isWord allOf anyOf upTo past runLen parts walk every valueFrom isDecimal twelve two after gives signs raws stands termsFrom termsOf longFlaw oddFlaw endMode openedAt openFlaw manyFrom manyFlaw lexicalOf verbNames longNames shortNames names lowered lower find verbOf optionOf kinds kindOf allName sessionName isName isKeep isLevel isPlace isPlainSign endsQuote isText itemsIn isList listOf textOf valueOf entryOf entryParts entriesOf saidOf propertyOf topicOf tagLen isNumbered isStarred isSegment areSegments segmentsOf pathOf targetOf allowed cellOf rows decideVerb decideOption decideArgument decideTarget decideProperty decideAfter decide walkTerms readingOf recordsOf
 lines-by-verb = refl
+
+-- 20 before 8, which no line shows: a state of verb 1, cd, that has seen option 5, force, which cd can't have
+pub twenty-before-eight :
+    let s = state Options 1 (set (replicate 13 false) 5 true) 0 in
+    let t = signs Out (bytes "-f") in
+    (decide s t ≡ refuses 20) × (isFirstOf (holds s t) order 20 ≡ true) × (isFirstOf (holds s t) order 8 ≡ false)
+unfolding holds order isFirstOf bytes sameBytes twelve two after gives signs raws longNames shortNames names lowered lower find verbNames verbOf optionOf allowed cellOf rows decideOption decide
+twenty-before-eight = (refl, refl, refl)
 
 -- before a line's first term nothing is passed, seen or counted
 pub first-cursor : (firstCursor .at ≡ 0) × (firstCursor .state .phase ≡ First) × (firstCursor .state .verb ≡ 0) × (firstCursor .state .seen ≡ replicate 13 false) × (firstCursor .state .count ≡ 0)
