@@ -59,7 +59,7 @@ enum {
     CLP_LINE_BYTES = 1024,      /* a line has at most so many bytes, and the line buffer has exactly so many */
     CLP_LINE_TERMS = 64,        /* a line has at most so many terms */
     CLP_LINE_PROPERTIES = 32,   /* and so many properties */
-    CLP_READING_BYTES = 399,    /* clp_read, clp_list: a line's records (proved; the most that a line has is 387, with ten options of show) */
+    CLP_READING_BYTES = 399,    /* clp_read, clp_list: a line's records (proved; the most that a line comes to is 387, tested) */
     CLP_CANONICAL_BYTES = 1978, /* clp_canonical: a line's writing (the most is 1,976, by reasoning over the rules, docs/DECISIONS.md; tested) */
     CLP_TEXT_BYTES = 2394,      /* clp_records_text: the text of one line's records: 6 for each byte that they can have (proved) */
     CLP_TREE_NODES = 512,       /* a tree has at most so many nodes beside the root; clp_resolve: so many numbers */

@@ -1,12 +1,11 @@
 -- A term that is taken as a part in either case: the decision on it looks at its lower case alone. Assumes nothing.
 use Prim.Native.Nat.{ℕ}
 use mathlib.Core.Path.{_≡_, refl, sym, ap, _∙_}
-use mathlib.Core.List.{List, [], _∷_, _++_}
+use mathlib.Core.List.{List, [], _∷_}
 use mathlib.Core.Bool.{Bool, true, false, cond, not, _&&_, _||_}
 use mathlib.Core.Option.{Option, none, some}
 use lib.ListN.{drop}
-use lib.Dec.{eqb, leb}
-use borrow.Author.Tests.{eqb-true}
+use lib.Dec.{leb}
 use Rattle.text.specs.Bytes.{sameBytes}
 use Rattle.text.proofs.Tests.{no-case, or-case}
 use Rattle.text.proofs.SameTexts.{same-eq}

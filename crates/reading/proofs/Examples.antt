@@ -23,7 +23,7 @@ use Rattle.reading.specs.Records.{span, recordsOf, listedIn, refusalReco
 use Rattle.reading.specs.Cursor.{firstCursor}
 use Rattle.reading.specs.declared.Phase.the-variants.{First, Options}
 use Rattle.reading.specs.Order.{holds, order, isFirstOf}
-use Rattle.reading.specs.Lines.{lines, linesByVerb}
+use Rattle.reading.specs.Lines.{lines, linesOfB}
 
 -- of each line with its answer: the line's records are that answer
 pub lines-answers : map (λ (l : String × List ℕ). listedIn (readingOf (bytes (l .0)))) lines ≡ map (λ (l : String × List ℕ). l .1) lines
@@ -31,9 +31,9 @@ unfolding lines bytes oneOf sameBytes isWord allOf anyOf upTo past runLen parts 
 lines-answers = refl
 
 -- the same of request b's lines
-pub lines-by-verb : map (λ (l : String × List ℕ). listedIn (readingOf (bytes (l .0)))) linesByVerb ≡ map (λ (l : String × List ℕ). l .1) linesByVerb
-unfolding linesByVerb bytes oneOf sameBytes isWord allOf anyOf upTo past runLen parts walk every valueFrom isDecimal twelve two after gives signs raws stands termsFrom termsOf longFlaw oddFlaw endMode openedAt openFlaw manyFrom manyFlaw lexicalOf verbNames longNames shortNames names lowered lower find verbOf optionOf kinds kindOf allName sessionName isName isKeep isLevel isPlace isPlainSign endsQuote isText itemsIn isList listOf textOf valueOf entryOf entryParts entriesOf saidOf propertyOf topicOf tagLen isNumbered isStarred isSegment areSegments segmentsOf pathOf targetOf allowed cellOf rows decideVerb decideOption decideArgument decideTarget decideProperty decideAfter decide walkTerms readingOf recordsOf
-lines-by-verb = refl
+pub lines-of-b : map (λ (l : String × List ℕ). listedIn (readingOf (bytes (l .0)))) linesOfB ≡ map (λ (l : String × List ℕ). l .1) linesOfB
+unfolding linesOfB bytes oneOf sameBytes isWord allOf anyOf upTo past runLen parts walk every valueFrom isDecimal twelve two after gives signs raws stands termsFrom termsOf longFlaw oddFlaw endMode openedAt openFlaw manyFrom manyFlaw lexicalOf verbNames longNames shortNames names lowered lower find verbOf optionOf kinds kindOf allName sessionName isName isKeep isLevel isPlace isPlainSign endsQuote isText itemsIn isList listOf textOf valueOf entryOf entryParts entriesOf saidOf propertyOf topicOf tagLen isNumbered isStarred isSegment areSegments segmentsOf pathOf targetOf allowed cellOf rows decideVerb decideOption decideArgument decideTarget decideProperty decideAfter decide walkTerms readingOf recordsOf
+lines-of-b = refl
 
 -- 20 before 8, which no line shows: a state of verb 1, cd, that has seen option 5, force, which cd can't have
 pub twenty-before-eight :

@@ -25,10 +25,10 @@ use Rattle.forms.specs.Forms.{starts}
 use Rattle.reading.specs.declared.Phase.{Phase}
 use Rattle.reading.specs.declared.Phase.the-variants.{First, Options, Waits, Rest}
 use Rattle.reading.specs.declared.State.{State}
-use Rattle.reading.specs.Command.{Item, verb, option, argument, target, prop}
+use Rattle.reading.specs.Command.{Item, verb, option}
 use Rattle.reading.specs.Reading.{state, begin, Decision, refuses, takes, orNo, newOption, decideOption, decideVerb, decideIn, decide, phaseAfter, next, Part, Reading, refusal, read, adding, partOf, walkTerms, readingOf, commandOf}
-use Rattle.reading.specs.Order.{isOptionHere, isExcluded, holds, order, isFirstOf, statePast, Refused, byLine, byTerm, byEnd}
-use Rattle.reading.specs.Excluded.{isHadBy, verbNumber, optionsHad, Excluded, anyOption, decideAny, walkAny, readingAny, isTwenty}
+use Rattle.reading.specs.Order.{isOptionHere, isExcluded, holds, order, statePast, Refused, byLine, byTerm, byEnd}
+use Rattle.reading.specs.Excluded.{isHadBy, verbNumber, optionsHad, Excluded, optionFree, decideFree, walkFree, readingFree, isTwenty}
 use Rattle.reading.proofs.TakenCases.{taken-case}
 use Rattle.reading.proofs.PartOrder.{ended-nil, walk-taken, read-walk}
 use Rattle.reading.proofs.Order.{first-row, term-exactly, line-exactly}
@@ -36,33 +36,33 @@ use Rattle.reading.proofs.Order.{first-row, term-exactly, line-exactly}
 -- ---- one part
 
 -- past the verb; and an option that waits for its argument is one that the verb has
-abbrev had : Phase → ℕ → Bool
-had First v = false
-had Options v = true
-had (Waits n) v = allowed v n
-had Rest v = true
+abbrev pastVerb : Phase → ℕ → Bool
+pastVerb First v = false
+pastVerb Options v = true
+pastVerb (Waits n) v = allowed v n
+pastVerb Rest v = true
 
 -- a part that was taken there: the verb has it, and stays; and so it is after it
 record Kept (v : ℕ) (i : Item) (s : State) : Type 0 where
   isHad : isHadBy v i ≡ true
   same : s .verb ≡ v
-  still : had (s .phase) v ≡ true
+  still : pastVerb (s .phase) v ≡ true
 
-option-had : (v n : ℕ) (k : Kind) → allowed v n ≡ true → had (phaseAfter n k) v ≡ true
+option-had : (v n : ℕ) (k : Kind) → allowed v n ≡ true → pastVerb (phaseAfter n k) v ≡ true
 option-had v n Mere h = refl
 option-had v n Keep h = h
 option-had v n Level h = h
 option-had v n Place h = h
 option-had v n Entries h = h
 
-kept-in : (p : Phase) (v : ℕ) (seen : List Bool) (count : ℕ) (t : List Sign) (i : Item) → decideIn p v seen count t ≡ takes i → had p v ≡ true → Kept v i (next (state p v seen count) i)
+kept-in : (p : Phase) (v : ℕ) (seen : List Bool) (count : ℕ) (t : List Sign) (i : Item) → decideIn p v seen count t ≡ takes i → pastVerb p v ≡ true → Kept v i (next (state p v seen count) i)
 kept-in p v seen count t i d =
-    taken-case (λ ph j. had ph v ≡ true → Kept v j (next (state ph v seen count) j)) v seen count t (λ _ _ h. no-case (sym h))
+    taken-case (λ ph j. pastVerb ph v ≡ true → Kept v j (next (state ph v seen count) j)) v seen count t (λ _ _ h. no-case (sym h))
     (λ k _ a _ _. record { isHad = a; same = refl; still = option-had v k (kindOf k) a }) (λ _ _ _ _ h. record { isHad = h; same = refl; still = refl })
     (λ _ _ _ _ _. record { isHad = refl; same = refl; still = refl }) (λ _ _ _ _ _. record { isHad = refl; same = refl; still = refl })
     (λ _ _ _ _. record { isHad = refl; same = refl; still = refl }) p i d
 
-kept : (s : State) (t : List Sign) (i : Item) → decide s t ≡ takes i → had (s .phase) (s .verb) ≡ true → Kept (s .verb) i (next s i)
+kept : (s : State) (t : List Sign) (i : Item) → decide s t ≡ takes i → pastVerb (s .phase) (s .verb) ≡ true → Kept (s .verb) i (next s i)
 unfolding decide
 kept s t i d h = kept-in (s .phase) (s .verb) (s .seen) (s .count) t i d h
 
@@ -70,7 +70,7 @@ kept s t i d h = kept-in (s .phase) (s .verb) (s .seen) (s .count) t i d h
 record Begun (t : List Sign) (i : Item) (s : State) : Type 0 where
   isVerb : verbOf (raws t) ≡ some (verbNumber i)
   same : s .verb ≡ verbNumber i
-  still : had (s .phase) (s .verb) ≡ true
+  still : pastVerb (s .phase) (s .verb) ≡ true
 
 begun : (t : List Sign) (i : Item) → decide begin t ≡ takes i → Begun t i (next begin i)
 unfolding decide decideVerb
@@ -82,13 +82,13 @@ begun t i d = go (verbOf (raws t)) refl d
 
 -- ---- a line that is read
 
-walk-had : (n : ℕ) (s : State) (ts : List Term) (ps : List Part) (v : ℕ) → walkTerms n s ts ≡ read ps → s .verb ≡ v → had (s .phase) v ≡ true → allOf (isHadBy v) (map (λ (p : Part). p .item) ps) ≡ true
+walk-had : (n : ℕ) (s : State) (ts : List Term) (ps : List Part) (v : ℕ) → walkTerms n s ts ≡ read ps → s .verb ≡ v → pastVerb (s .phase) v ≡ true → allOf (isHadBy v) (map (λ (p : Part). p .item) ps) ≡ true
 unfolding walkTerms allOf
 walk-had n s [] ps v h e f = rw (ended-nil (s .phase) n ps h)
 walk-had n s (t ∷ ts) ps v h e f =
     let k = walk-taken n s t ts ps h in
-    let o = kept s (t .text) (k .item) (k .decided) (ap (had (s .phase)) e ∙ f) in
-    let r = walk-had n (next s (k .item)) ts (k .rest) v (k .walked) (o .same ∙ e) (ap (had (next s (k .item) .phase)) (sym e) ∙ o .still) in
+    let o = kept s (t .text) (k .item) (k .decided) (ap (pastVerb (s .phase)) e ∙ f) in
+    let r = walk-had n (next s (k .item)) ts (k .rest) v (k .walked) (o .same ∙ e) (ap (pastVerb (next s (k .item) .phase)) (sym e) ∙ o .still) in
     rw (k .parts) (simp (ap (λ (w : ℕ). isHadBy w (k .item)) (sym e) ∙ o .isHad) r)
 
 -- A COMMAND'S VERB HAS EVERY OPTION GIVEN WITH IT
@@ -101,7 +101,7 @@ options-had line is h = go (readingOf line) refl
     on (t ∷ ts) ps w =
         let k = walk-taken (length line) begin t ts ps w in
         let b = begun (t .text) (k .item) (k .decided) in
-        rw (k .parts) (walk-had (length line) (next begin (k .item)) ts (k .rest) (verbNumber (k .item)) (k .walked) (b .same) (ap (had (next begin (k .item) .phase)) (sym (b .same)) ∙ b .still))
+        rw (k .parts) (walk-had (length line) (next begin (k .item)) ts (k .rest) (verbNumber (k .item)) (k .walked) (b .same) (ap (pastVerb (next begin (k .item) .phase)) (sym (b .same)) ∙ b .still))
 
     go : (r : Reading) → readingOf line ≡ r → optionsHad is ≡ true
     go (refusal k p) e = none-some is (rw e at h)
@@ -112,17 +112,17 @@ options-had line is h = go (readingOf line) refl
 -- ---- a line that is refused as 20
 
 -- past the first term the state holds the verb that it names
-past-verb : (s u : State) (ts : List Term) → statePast s ts ≡ some u → had (s .phase) (s .verb) ≡ true → u .verb ≡ s .verb
+past-verb : (s u : State) (ts : List Term) → statePast s ts ≡ some u → pastVerb (s .phase) (s .verb) ≡ true → u .verb ≡ s .verb
 unfolding statePast
 past-verb s u [] h f = ap (λ (w : State). w .verb) (sym (Option·some-injective s u h))
 past-verb s u (t ∷ ts) h f = go (decide s (t .text)) refl (λ i. past-verb (next s i) u ts)
   where
     go : (d : Decision) → decide s (t .text) ≡ d
-        → ((i : Item) → statePast (next s i) ts ≡ some u → had (next s i .phase) (next s i .verb) ≡ true → u .verb ≡ next s i .verb) → u .verb ≡ s .verb
+        → ((i : Item) → statePast (next s i) ts ≡ some u → pastVerb (next s i .phase) (next s i .verb) ≡ true → u .verb ≡ next s i .verb) → u .verb ≡ s .verb
     go (refuses k) e ih = none-some u (rw e at h)
     go (takes i) e ih =
         let o = kept s (t .text) i e f in
-        ih i (rw e at h) (ap (had (next s i .phase)) (o .same) ∙ o .still) ∙ o .same
+        ih i (rw e at h) (ap (pastVerb (next s i .phase)) (o .same) ∙ o .still) ∙ o .same
 
 first-verb : (t : Term) (ts : List Term) (u : State) → statePast begin (t ∷ ts) ≡ some u → verbOf (raws (t .text)) ≡ some (u .verb)
 unfolding statePast
@@ -210,7 +210,7 @@ excluded-exactly line p = ((λ h. forth line p (line-exactly line 20 p .0 h)), (
 -- ---- a line that is not
 
 -- an option that is not refused as 20 is decided on as if every verb could have it
-option-else : (v : ℕ) (seen : List Bool) (o : Option ℕ) → (newOption v seen o ≡ refuses 20 → ⊥) → newOption v seen o ≡ anyOption seen o
+option-else : (v : ℕ) (seen : List Bool) (o : Option ℕ) → (newOption v seen o ≡ refuses 20 → ⊥) → newOption v seen o ≡ optionFree seen o
 option-else v seen none n = refl
 option-else v seen (some k) n = go (allowed v k) n
   where
@@ -220,19 +220,19 @@ option-else v seen (some k) n = go (allowed v k) n
     go false n = absurd (n refl)
 
 -- and so is every term
-term-else : (s : State) (t : List Sign) → (decide s t ≡ refuses 20 → ⊥) → decide s t ≡ decideAny s t
-unfolding decide decideAny decideOption
+term-else : (s : State) (t : List Sign) → (decide s t ≡ refuses 20 → ⊥) → decide s t ≡ decideFree s t
+unfolding decide decideFree decideOption
 term-else s t n = by (s .phase) (starts 45 t) refl refl
   where
-    by : (p : Phase) (x : Bool) → s .phase ≡ p → starts 45 t ≡ x → decide s t ≡ decideAny s t
+    by : (p : Phase) (x : Bool) → s .phase ≡ p → starts 45 t ≡ x → decide s t ≡ decideFree s t
     by First x e f = rw e
     by Options true e f = rw (e, f) (option-else (s .verb) (s .seen) (optionOf (drop 1 (raws t))) (λ h. n (rw (e, f) h)))
     by Options false e f = rw (e, f)
     by (Waits k) x e f = rw e
     by Rest x e f = rw e
 
-walk-else : (n : ℕ) (s : State) (ts : List Term) → isTwenty (walkTerms n s ts) ≡ false → walkTerms n s ts ≡ walkAny n s ts
-unfolding walkTerms walkAny
+walk-else : (n : ℕ) (s : State) (ts : List Term) → isTwenty (walkTerms n s ts) ≡ false → walkTerms n s ts ≡ walkFree n s ts
+unfolding walkTerms walkFree
 walk-else n s [] h = refl
 walk-else n s (t ∷ ts) h = go (decide s (t .text)) refl (λ i. walk-else n (next s i) ts)
   where
@@ -240,8 +240,8 @@ walk-else n s (t ∷ ts) h = go (decide s (t .text)) refl (λ i. walk-else n (ne
     adding-twenty q (refusal k p) = refl
     adding-twenty q (read ps) = refl
 
-    go : (d : Decision) → decide s (t .text) ≡ d → ((i : Item) → isTwenty (walkTerms n (next s i) ts) ≡ false → walkTerms n (next s i) ts ≡ walkAny n (next s i) ts)
-        → walkTerms n s (t ∷ ts) ≡ walkAny n s (t ∷ ts)
+    go : (d : Decision) → decide s (t .text) ≡ d → ((i : Item) → isTwenty (walkTerms n (next s i) ts) ≡ false → walkTerms n (next s i) ts ≡ walkFree n (next s i) ts)
+        → walkTerms n s (t ∷ ts) ≡ walkFree n s (t ∷ ts)
     go (refuses k) e ih =
         let u = term-else s (t .text) (λ z. no-case (rw z at h)) in
         rw (e, sym u ∙ e)
@@ -250,10 +250,10 @@ walk-else n s (t ∷ ts) h = go (decide s (t .text)) refl (λ i. walk-else n (ne
         rw (e, sym u ∙ e) (ap (adding (partOf t i)) (ih i (sym (adding-twenty (partOf t i) (walkTerms n (next s i) ts)) ∙ (rw e at h))))
 
 -- ANY OTHER LINE IS READ AS IF EVERY VERB COULD HAVE EVERY OPTION
-pub otherwise-same : (line : List ℕ) → isTwenty (readingOf line) ≡ false → readingOf line ≡ readingAny line
-unfolding readingOf readingAny
+pub otherwise-same : (line : List ℕ) → isTwenty (readingOf line) ≡ false → readingOf line ≡ readingFree line
+unfolding readingOf readingFree
 otherwise-same line h = go (lexicalOf line) refl
   where
-    go : (v : Verdict) → lexicalOf line ≡ v → readingOf line ≡ readingAny line
+    go : (v : Verdict) → lexicalOf line ≡ v → readingOf line ≡ readingFree line
     go Fine e = rw e (walk-else (length line) begin (termsOf line) (rw e at h))
     go (Flawed k p) e = rw e

@@ -19,7 +19,7 @@ use Rattle.reading.specs.Command.{Item, verb, option, argument, target, 
 use Rattle.reading.specs.Reading.{begin, Decision, refuses, takes, decide, next, Reading, refusal, read, adding, ended, partOf, going, unless}
 use Rattle.reading.specs.Order.{isOptionHere, statePast}
 
--- is a part none that this verb can't have? Options alone are held to the table, each with its argument.
+-- can this verb have this part? The table speaks of an option, and so of its argument; any other part it can have.
 abbrev pub isHadBy : ℕ → Item → Bool
 isHadBy v (verb n) = true
 isHadBy v (option n) = allowed v n
@@ -59,21 +59,21 @@ pub record Excluded (line : List ℕ) (p : ℕ) : Type 0 where
   pub excluded : allowed verbNo optionNo ≡ false
   pub place : here .start ≡ p
 
--- ---- the reading of a line if every verb could have every option: rows 7 and 8 as they are, and no 20
+-- ---- the reading of a line free of the table, as if every verb could have every option: rows 7 and 8 as they are, and no 20
 
-abbrev pub anyOption : List Bool → Option ℕ → Decision
-anyOption seen none = refuses 7
-anyOption seen (some n) = cond (getD seen n false) (refuses 8) (takes (option n))
+abbrev pub optionFree : List Bool → Option ℕ → Decision
+optionFree seen none = refuses 7
+optionFree seen (some n) = cond (getD seen n false) (refuses 8) (takes (option n))
 
-unfoldable pub decideAny : State → List Sign → Decision
-decideAny s t = cond (isOptionHere (s .phase) t) (anyOption (s .seen) (optionOf (drop 1 (raws t)))) (decide s t)
+unfoldable pub decideFree : State → List Sign → Decision
+decideFree s t = cond (isOptionHere (s .phase) t) (optionFree (s .seen) (optionOf (drop 1 (raws t)))) (decide s t)
 
-unfoldable pub walkAny : ℕ → State → List Term → Reading
-walkAny n s [] = ended (s .phase) n
-walkAny n s (t ∷ ts) = going (decideAny s (t .text)) (t .start) (λ i. adding (partOf t i) (walkAny n (next s i) ts))
+unfoldable pub walkFree : ℕ → State → List Term → Reading
+walkFree n s [] = ended (s .phase) n
+walkFree n s (t ∷ ts) = going (decideFree s (t .text)) (t .start) (λ i. adding (partOf t i) (walkFree n (next s i) ts))
 
-unfoldable pub readingAny : List ℕ → Reading
-readingAny line = let r = walkAny (length line) begin (termsOf line) in unless (lexicalOf line) r
+unfoldable pub readingFree : List ℕ → Reading
+readingFree line = let r = walkFree (length line) begin (termsOf line) in unless (lexicalOf line) r
 
 -- is a reading refusal 20?
 abbrev pub isTwenty : Reading → Bool

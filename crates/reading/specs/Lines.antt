@@ -22,8 +22,8 @@ lines =
     ∷ []
 
 -- request b's, as its points are read: 20 where the option first stands, whatever follows it; a term that is not read as an option is never 20
-unfoldable pub linesByVerb : List (String × List ℕ)
-linesByVerb =
+unfoldable pub linesOfB : List (String × List ℕ)
+linesOfB =
     ("reset -f", 1 ∷ 8 ∷ 2 ∷ 5 ∷ 0 ∷ 8 ∷ 0 ∷ 0 ∷ [])
     ∷ ("dump -F", 1 ∷ 4 ∷ 2 ∷ 5 ∷ 0 ∷ 7 ∷ 0 ∷ 0 ∷ [])
     ∷ ("cd -f -f", 5 ∷ 20 ∷ 0 ∷ 3 ∷ [])

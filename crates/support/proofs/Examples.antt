@@ -9,7 +9,7 @@ use Rattle.words.specs.Words.{verbNames, longNames}
 use Rattle.support.specs.Table15.{Cell, X, ¹, ², o, columns, rows, cellOf, had, allowed}
 
 -- the columns are the verbs and the rows the options, by their numbers
-pub columns-verbs : map bytes columns ≡ [] ∷ verbNames
+pub columns-verbs : map bytes columns ≡ verbNames
 unfolding columns bytes verbNames
 columns-verbs = refl
 

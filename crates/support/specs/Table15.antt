@@ -15,7 +15,7 @@ pub data Cell : Type 0 where
 
 -- the columns' names, the verbs', numbered from 1
 unfoldable pub columns : List String
-columns = "" ∷ "cd" ∷ "create" ∷ "delete" ∷ "dump" ∷ "exit" ∷ "help" ∷ "load" ∷ "reset" ∷ "set" ∷ "show" ∷ "start" ∷ "stop" ∷ "version" ∷ []
+columns = "cd" ∷ "create" ∷ "delete" ∷ "dump" ∷ "exit" ∷ "help" ∷ "load" ∷ "reset" ∷ "set" ∷ "show" ∷ "start" ∷ "stop" ∷ "version" ∷ []
 
 -- the rows, each with its name, the option's, numbered from 1; 0 is none's
 unfoldable pub rows : List (List Cell × String)
@@ -39,7 +39,8 @@ rows =
 unfoldable pub cellOf : ℕ → ℕ → Cell
 cellOf verb option = getD (o ∷ getD rows option ([], "") .0) verb o
 
--- "If the cell is blank, the implementation shall not support the use of the option named in the row with the verb named in the column": only a blank cell excludes
+-- "If the cell in Table 15 .. is blank, the implementation shall not support the use of the option named in the row with the verb named in the column": only
+-- a blank cell excludes
 abbrev pub had : Cell → Bool
 had X = true
 had ¹ = true

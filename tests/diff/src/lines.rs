@@ -20,7 +20,7 @@ pub struct Counts {
 impl Counts {
     pub fn show(&self) {
         println!("diff: accepted {}, refused by number {:?}", self.accepted, &self.refused[1..]);
-        println!("diff: the longest canonical writing has {} of {} bytes", self.longest, face::CANONICAL_BYTES);
+        println!("diff: the longest canonical writing has {} of {} bytes", self.longest, LONGEST_WRITING);
     }
 }
 
@@ -117,11 +117,14 @@ fn compare_term(line: &[u8], place: usize) -> Option<usize> {
     found.ok().flatten().map(|part| usize::from(part.position) + usize::from(part.length))
 }
 
-/// The writing's length, which is within the bound that the header gives.
+/// The longest that a writing can be; the header's room has a little more (docs/DECISIONS.md).
+const LONGEST_WRITING: usize = 1976;
+
+/// The writing's length, which is within that bound.
 fn compare_writing(rng: &mut Rng, line: &[u8]) -> usize {
     let mut room = [0; 4200];
     let needed = write_canonical(line, &mut room).unwrap_or(0);
-    assert!(needed <= face::CANONICAL_BYTES, "{}", line.escape_ascii());
+    assert!(needed <= LONGEST_WRITING, "{}", line.escape_ascii());
     let size = size_near(rng, needed, 1100);
     let ours = |room: &mut [u8]| face::canonical(line, room);
     let theirs = |room: &mut [u8]| write_canonical(line, room);

@@ -131,7 +131,7 @@ fn verbs_have_these_options() {
     }
 }
 
-/// Every line of a beginning, so many bytes of those that matter, and an end: none is written longer than the pieces allow; `cd -x` and `cd -x -v` are written as long.
+/// Every line of a beginning, so many bytes of those that matter, and an end: none is written longer than the pieces allow; `cd` and `show`, alone, with `-x` and with `-x -v`, are written as long.
 #[test]
 fn short_lines_are_written_no_longer_than_the_pieces_allow() {
     let values = growth_of_values();

@@ -84,7 +84,7 @@ fn most_records(verb: &str, options: &str) -> usize {
 }
 
 #[test]
-fn a_reading_takes_at_most_399_bytes() {
+fn the_most_that_the_records_of_each_verb_take() {
     // Since document 02's request b no verb has all twelve options, which would take them all.
     let show = most_records("show", "-a -d x -x -f -h -k 1 -l 1 -o x -v -w");
     assert_eq!(show, 2 + 10 * 6 + 5 + 32 * 10);

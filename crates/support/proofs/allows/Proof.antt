@@ -1,5 +1,4 @@
 -- `support::allows` meets its contract.
-use native.Mathlib.Omega.{arith}
 use Rattle.support.specs.Table15.{rows}
 use Rattle.support.proofs.Lookup.{tableBytes, each-pair, no-verb, no-option}
 use borrow.Author.Needs.{needs}
