@@ -1,6 +1,7 @@
 //! What is worked on: console text, commands, and a tree of 16 levels.
 
-use clp_gen::{line, tree, Rng};
+use clp_gen::{excluded, line, tree, Rng};
+use clp_reader::{reading::read, refusal::NOT_FOR_VERB};
 
 /// Lines of at least so many bytes together.
 fn lines(size: usize, mut next: impl FnMut() -> Vec<u8>) -> Vec<Vec<u8>> {
@@ -27,7 +28,18 @@ fn accepted(rng: &mut Rng, size: usize, make: fn(&mut Rng) -> Vec<u8>) -> Vec<Ve
     let mut room = [0; 400];
     lines(size, || loop {
         let line = make(rng);
-        if clp_reader::reading::read(&line, &mut room).is_ok() && !line.is_empty() {
+        if read(&line, &mut room).is_ok() && !line.is_empty() {
+            return line;
+        }
+    })
+}
+
+/// Commands with an option put in that the verb can't have, which are refused as 20.
+pub fn excluded(rng: &mut Rng, size: usize) -> Vec<Vec<u8>> {
+    let mut room = [0; 400];
+    lines(size, || loop {
+        let line = excluded::excluded(rng).line;
+        if read(&line, &mut room).is_err_and(|refusal| refusal.number == NOT_FOR_VERB) {
             return line;
         }
     })
