@@ -8,7 +8,7 @@ use native.Mathlib.Omega.{arith}
 use lib.ListN.{length, length-map}
 use Rattle.canonical.specs.Canonical.{writeItem, writing}
 use Rattle.reading.specs.Command.{Item}
-use Rattle.reading.specs.Reading.{Decision, Reading, adding, begin, commandIn, commandOf, decide, ended, going, next, partOf, read, readingOf, refusal, refuses, takes, walkTerms}
+use Rattle.reading.specs.Reading.{Decision, Reading, adding, begin, commandIn, commandOf, decide, ended, going, next, partOf, placeOf, read, readingOf, refusal, refuses, takes, walkTerms}
 use Rattle.reading.specs.declared.Phase.{Phase}
 use Rattle.reading.specs.declared.Phase.the-variants.{First, Options, Rest, Waits}
 use Rattle.reading.specs.declared.State.{State}
@@ -214,7 +214,7 @@ walk-follow n s (t ∷ ts) = go (decide s (t .text)) (λ i. walk-follow n (next 
     add i (read ps) o e = rw (← e)
 
     go : (d : Decision) → ((i : Item) → commandIn (walkTerms n (next s i) ts) ≡ follow (next s i) (texts ts))
-        → commandIn (going d (t .start) (λ i. adding (partOf t i) (walkTerms n (next s i) ts))) ≡ goOn d (λ i. follow (next s i) (texts ts))
+        → commandIn (going d (placeOf s t) (λ i. adding (partOf t i) (walkTerms n (next s i) ts))) ≡ goOn d (λ i. follow (next s i) (texts ts))
     go (refuses k) ih = refl
     go (takes i) ih = add i (walkTerms n (next s i) ts) (follow (next s i) (texts ts)) (ih i)
 

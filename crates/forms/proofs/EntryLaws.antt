@@ -65,7 +65,7 @@ entry-parts-some l (x ∷ t) = go (not l && isBare 44 x) (entryParts (cond (isBa
     go false (p ∷ ps) = refl
 
 -- what stands at the end of an item: nothing, or a comma and more items
-pub afterEntry : List ℕ → List (List Sign)
+unfoldable pub afterEntry : List ℕ → List (List Sign)
 afterEntry [] = []
 afterEntry (c ∷ r) = entryParts false (signs Out r)
 
@@ -112,7 +112,7 @@ module _ (u : List ℕ) (k : ℕ) (e : k ≡ entryLen Out false u) where
   unfolding afterEntry
   parts-rest h = entry-first u ∙ rw (← e, drop-step u k h)
 
-some-every : {A : Type 0} (o : Option A) (os : List (Option A)) → isSome (every (o ∷ os)) ≡ isSome o && isSome (every os)
+pub some-every : {A : Type 0} (o : Option A) (os : List (Option A)) → isSome (every (o ∷ os)) ≡ isSome o && isSome (every os)
 unfolding every
 some-every {A = A} none os = refl
 some-every {A = A} (some a) os = go (every os)

@@ -44,6 +44,18 @@ use Rattle.forms.proofs.entry_len.Reads as entry-len-reads
 use Rattle.forms.proofs.are_entries as are-entries-fn
 use Rattle.forms.proofs.are_entries.Kinds as are-entries-kinds
 use Rattle.forms.proofs.are_entries.Reads as are-entries-reads
+use Rattle.forms.proofs.is_separator as is-separator-fn
+use Rattle.forms.proofs.is_separator.Kinds as is-separator-kinds
+use Rattle.forms.proofs.is_separator.Reads as is-separator-reads
+use Rattle.forms.proofs.at_step as at-step-fn
+use Rattle.forms.proofs.at_step.Kinds as at-step-kinds
+use Rattle.forms.proofs.at_step.Reads as at-step-reads
+use Rattle.forms.proofs.is_whole as is-whole-fn
+use Rattle.forms.proofs.is_whole.Kinds as is-whole-kinds
+use Rattle.forms.proofs.is_whole.Reads as is-whole-reads
+use Rattle.forms.proofs.is_bare as is-bare-fn
+use Rattle.forms.proofs.is_bare.Kinds as is-bare-kinds
+use Rattle.forms.proofs.is_bare.Reads as is-bare-reads
 
 pub segment-at-only :
     (κs : Lifetimes.Lfts 1) (a : World.ArgsD segment-at-fn.signature κs)
@@ -148,3 +160,35 @@ pub are-entries-only :
     → are-entries-reads.Post κs a r s → are-entries-reads.Post κs a r′ s′
     → r ≡ r′
 are-entries-only κs a r r′ s s′ p q = p ∙ sym q
+
+pub is-separator-only :
+    (κs : Lifetimes.Lfts 0) (a : World.ArgsD is-separator-fn.signature κs)
+    (r r′ : World.ResD is-separator-fn.signature κs)
+    (s s′ : Clauses.AtExit (Kinds.endedOf 0 is-separator-kinds.ps is-separator-kinds.r) κs)
+    → is-separator-reads.Post κs a r s → is-separator-reads.Post κs a r′ s′
+    → r ≡ r′
+is-separator-only κs a r r′ s s′ p q = p ∙ sym q
+
+pub at-step-only :
+    (κs : Lifetimes.Lfts 0) (a : World.ArgsD at-step-fn.signature κs)
+    (r r′ : World.ResD at-step-fn.signature κs)
+    (s s′ : Clauses.AtExit (Kinds.endedOf 0 at-step-kinds.ps at-step-kinds.r) κs)
+    → at-step-reads.Post κs a r s → at-step-reads.Post κs a r′ s′
+    → r ≡ r′
+at-step-only κs a r r′ s s′ p q = p ∙ sym q
+
+pub is-whole-only :
+    (κs : Lifetimes.Lfts 0) (a : World.ArgsD is-whole-fn.signature κs)
+    (r r′ : World.ResD is-whole-fn.signature κs)
+    (s s′ : Clauses.AtExit (Kinds.endedOf 0 is-whole-kinds.ps is-whole-kinds.r) κs)
+    → is-whole-reads.Post κs a r s → is-whole-reads.Post κs a r′ s′
+    → r ≡ r′
+is-whole-only κs a r r′ s s′ p q = p ∙ sym q
+
+pub is-bare-only :
+    (κs : Lifetimes.Lfts 0) (a : World.ArgsD is-bare-fn.signature κs)
+    (r r′ : World.ResD is-bare-fn.signature κs)
+    (s s′ : Clauses.AtExit (Kinds.endedOf 0 is-bare-kinds.ps is-bare-kinds.r) κs)
+    → is-bare-reads.Post κs a r s → is-bare-reads.Post κs a r′ s′
+    → r ≡ r′
+is-bare-only κs a r r′ s s′ p q = p ∙ sym q

@@ -143,7 +143,7 @@ first-up c v n =
     (λ _ q. (raws (upTo (isBare 61) (signs In v)), ap (λ z. z ∷ raws (upTo (isBare 61) (signs In v))) (sym (eqb-true c 34 q))))
     (λ _ _. (raws (upTo (isBare 61) (signs Out v)), simp (ne-eqb c 61 n)))
 
-not-name : (n : List ℕ) (c : ℕ) (v : List ℕ) → isWord c ≡ false → isName (n ++ (c ∷ v)) ≡ false
+pub not-name : (n : List ℕ) (c : ℕ) (v : List ℕ) → isWord c ≡ false → isName (n ++ (c ∷ v)) ≡ false
 not-name n c v e = go (isName (n ++ (c ∷ v))) refl
   where
     go : (x : Bool) → isName (n ++ (c ∷ v)) ≡ x → x ≡ false
@@ -160,11 +160,11 @@ module _ {A B : Type 0} (rest : List Sign → Option B) (mere : List ℕ → A) 
   reads t = namedOf rest mere with t
 
   -- n is the run of letters, digits and underscores that a text begins with: all of it, before `=`, before anything else
-  named-alone : (n : List ℕ) → allOf isWord n ≡ true → reads (signs Out n) ≡ cond (isName n) (some (mere n)) none
+  pub named-alone : (n : List ℕ) → allOf isWord n ≡ true → reads (signs Out n) ≡ cond (isName n) (some (mere n)) none
   unfolding namedOf
   named-alone n e = ap reads (words-alone n e) ∙ simp (none-bare n e, raws-bares n)
 
-  named-equal : (n v : List ℕ) → allOf isWord n ≡ true → reads (signs Out (n ++ (61 ∷ v))) ≡ cond (isName n) (given (rest (signs Out v)) (λ b. some (with n b))) none
+  pub named-equal : (n v : List ℕ) → allOf isWord n ≡ true → reads (signs Out (n ++ (61 ∷ v))) ≡ cond (isName n) (given (rest (signs Out v)) (λ b. some (with n b))) none
   unfolding namedOf
   named-equal n v e =
       let w = none-bare n e in
@@ -176,7 +176,7 @@ module _ {A B : Type 0} (rest : List Sign → Option B) (mere : List ℕ → A) 
         raws-bares n,
       )
 
-  named-other : (n : List ℕ) (c : ℕ) (v : List ℕ) → allOf isWord n ≡ true → isWord c ≡ false → (c ≡ 61 → ⊥) → reads (signs Out (n ++ (c ∷ v))) ≡ none
+  pub named-other : (n : List ℕ) (c : ℕ) (v : List ℕ) → allOf isWord n ≡ true → isWord c ≡ false → (c ≡ 61 → ⊥) → reads (signs Out (n ++ (c ∷ v))) ≡ none
   unfolding namedOf
   named-other n c v e w d = go (hasEq (signs Out (n ++ (c ∷ v)))) refl
     where
@@ -196,7 +196,7 @@ module _ {A B : Type 0} (rest : List Sign → Option B) (mere : List ℕ → A) 
       go false p = rw (p, raws-signs (n ++ (c ∷ v)), not-name n c v w)
 
   -- the same by places of a text t that no name begins
-  named-none : (t : List ℕ) → nameLen t ≡ 0 → reads (signs Out t) ≡ none
+  pub named-none : (t : List ℕ) → nameLen t ≡ 0 → reads (signs Out t) ≡ none
   named-none t e = go (leb (length t) (runLen isWord t)) (eqb (getD t (runLen isWord t) 0) 61) refl refl
     where
       go : (x y : Bool) → leb (length t) (runLen isWord t) ≡ x → eqb (getD t (runLen isWord t) 0) 61 ≡ y → reads (signs Out t) ≡ none

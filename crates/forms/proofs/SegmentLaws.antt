@@ -143,7 +143,7 @@ piece-past t at h = rw (drop-of-length-le t h)
 
 -- ---- a segment before others
 
-segments-cons : (a : List ℕ) (ps : List (List ℕ)) → isNil ps ≡ false → areSegments (a ∷ ps) ≡ isSegment a && areSegments ps
+pub segments-cons : (a : List ℕ) (ps : List (List ℕ)) → isNil ps ≡ false → areSegments (a ∷ ps) ≡ isSegment a && areSegments ps
 unfolding areSegments
 segments-cons a [] e = no-case e
 segments-cons a (p ∷ ps) e = refl

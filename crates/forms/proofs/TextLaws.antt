@@ -26,7 +26,7 @@ use Rattle.terms.proofs.ByteCases.{gives-case, out-case, grave-first, end-case}
 
 -- ---- a quoted string or plain
 
-from-dead : (t : List Sign) → textFrom Dead t ≡ false
+pub from-dead : (t : List Sign) → textFrom Dead t ≡ false
 unfolding textOver
 from-dead [] = refl
 from-dead (x ∷ t) = from-dead t
@@ -67,7 +67,7 @@ text-from (quote ∷ t) = from-inside t
 text-from (quoted b ∷ t) = from-dead t
 text-from (quotedEscaped b ∷ t) = from-dead t
 
-over : (q : At) (a r : List Sign) → textFrom q (a ++ r) ≡ textFrom (textOver q a) r
+pub over : (q : At) (a r : List Sign) → textFrom q (a ++ r) ≡ textFrom (textOver q a) r
 unfolding textOver
 over q [] r = refl
 over q (x ∷ a) r = over (textStep q x) a r
@@ -173,7 +173,7 @@ list-from t =
 
 -- ---- a list byte by byte
 
-list-dead : (k : ℕ) (t : List Sign) → listFrom Dead k t ≡ false
+pub list-dead : (k : ℕ) (t : List Sign) → listFrom Dead k t ≡ false
 unfolding listFrom
 list-dead k [] = refl
 list-dead k (x ∷ t) = go (isBare 41 x) (isBare 44 x) (list-dead k t)
@@ -205,7 +205,7 @@ list-next q k r = go (whole q) refl
     go true e = rw (e, add-one)
     go false e = rw e (sym (list-dead (k + 1) r))
 
-list-over : (q : At) (k : ℕ) (m : Mode) (b : ℕ) (r : List Sign) → bareAt 41 m b ≡ false
+pub list-over : (q : At) (k : ℕ) (m : Mode) (b : ℕ) (r : List Sign) → bareAt 41 m b ≡ false
     → listFrom q k (gives m b ++ r) ≡ listFrom (listStep q m b) (itemsAfter k m b) r
 unfolding listFrom textOver listStep itemsAfter gives
 list-over q k m b r =
@@ -221,7 +221,7 @@ list-over q k m b r =
     bare-over p t e true u = simp (p, t, u, e) (list-next q k r)
     bare-over p t e false u = simp (p, t, u, e)
 
-list-end : (q : At) (k : ℕ) (m : Mode) → listFrom q k (atEnd m) ≡ false
+pub list-end : (q : At) (k : ℕ) (m : Mode) → listFrom q k (atEnd m) ≡ false
 unfolding listFrom
 list-end q k = end-case (λ m z. listFrom q k z ≡ false) refl refl refl refl
 

@@ -30,7 +30,7 @@ starts-byte k b s e =
 
 -- ---- a value
 
-some-if : {A : Type 0} (b : Bool) (a : A) → isSome (cond b (some a) none) ≡ b
+pub some-if : {A : Type 0} (b : Bool) (a : A) → isSome (cond b (some a) none) ≡ b
 some-if true a = refl
 some-if false a = refl
 

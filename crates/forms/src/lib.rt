@@ -57,7 +57,7 @@ pub enum Piece {
 }
 
 // `/` or `\`
-fn is_separator(b: u8) -> bool
+pub fn is_separator(b: u8) -> bool
     ensures { λ r. ⌜ r ≡ isSeparator b ⌝ }
 {
     if b == b'/' {
@@ -369,7 +369,7 @@ fn at_in_grave(q: At, b: u8) -> At
     on_quoted(p, b)
 }
 
-fn at_step(q: At, m: Mode, b: u8) -> At
+pub fn at_step(q: At, m: Mode, b: u8) -> At
     ensures { λ r. ⌜ r ≡ textOver q (gives m b) ⌝ }
 {
     match m {
@@ -380,7 +380,7 @@ fn at_step(q: At, m: Mode, b: u8) -> At
     }
 }
 
-fn is_whole(q: At) -> bool
+pub fn is_whole(q: At) -> bool
     ensures { λ r. ⌜ r ≡ whole q ⌝ }
 {
     match q {
@@ -428,7 +428,7 @@ pub fn is_text(s: &[u8], n: usize) -> bool
 }
 
 // Is a byte this one, bare? Of a byte that GRAVE can escape.
-fn is_bare(m: Mode, b: u8, k: u8) -> bool
+pub fn is_bare(m: Mode, b: u8, k: u8) -> bool
     ensures { λ r. ⌜ r ≡ bareAt k m b ⌝ }
 {
     match m {

@@ -17,7 +17,13 @@ use Rattle.terms.specs.Rows.{longFlaw, oddFlaw, endMode, openedAt, openFlaw, ma
 use Rattle.words.specs.Words.{verbNames, longNames, shortNames, lower, lowered, names, find, verbOf, optionOf, kinds, kindOf, allName, sessionName}
 use Rattle.support.specs.Table15.{rows, cellOf, allowed}
 use Rattle.forms.specs.Forms.{isName, isKeep, isLevel, isPlace, isPlainSign, endsQuote, isText, itemsIn, isList, listOf, textOf, valueOf, entryOf, entryParts, entriesOf, saidOf, propertyOf, topicOf}
+use Rattle.forms.specs.Automata.{textOver}
 use Rattle.forms.specs.Targets.{tagLen, isNumbered, isStarred, isSegment, areSegments, segmentsOf, pathOf, targetOf}
+use Rattle.reach.specs.Machine.{reachBy}
+use Rattle.reach.specs.Numbers.{digitMore, isAllLetter, allStep, firstStep}
+use Rattle.reach.specs.Roads.{startStep, partStep, tagEnd, tagStep, numberStep}
+use Rattle.reach.specs.Stages.{freeStep, commaStep, isNameByte, nameStep, textOn, valueStep, saidStep, inText, itemsNext, itemsOn, inItems}
+use Rattle.reach.specs.Reach.{reachOf}
 use Rattle.reading.specs.Reading.{state, refuses, decideVerb, decideOption, decideArgument, decideTarget, decideProperty, decideAfter, decide, walkTerms, readingOf}
 use Rattle.reading.specs.Records.{span, recordsOf, listedIn, refusalRecord, cutRecord, targetSpan, targetIn, targetPart}
 use Rattle.reading.specs.Cursor.{firstCursor}
@@ -27,12 +33,12 @@ use Rattle.reading.specs.Lines.{lines, linesOfB}
 
 -- of each line with its answer: the line's records are that answer
 pub lines-answers : map (λ (l : String × List ℕ). listedIn (readingOf (bytes (l .0)))) lines ≡ map (λ (l : String × List ℕ). l .1) lines
-unfolding lines bytes oneOf sameBytes isWord allOf anyOf upTo past runLen parts walk every valueFrom isDecimal twelve two after gives signs raws stands termsFrom termsOf longFlaw oddFlaw endMode openedAt openFlaw manyFrom manyFlaw lexicalOf verbNames longNames shortNames names lowered lower find verbOf optionOf kinds kindOf allName sessionName isName isKeep isLevel isPlace isPlainSign endsQuote isText itemsIn isList listOf textOf valueOf entryOf entryParts entriesOf saidOf propertyOf topicOf tagLen isNumbered isStarred isSegment areSegments segmentsOf pathOf targetOf allowed cellOf rows decideVerb decideOption decideArgument decideTarget decideProperty decideAfter decide walkTerms readingOf recordsOf
+unfolding lines textOver bytes oneOf sameBytes isWord allOf anyOf upTo past runLen parts walk every valueFrom isDecimal twelve two after gives signs raws stands termsFrom termsOf longFlaw oddFlaw endMode openedAt openFlaw manyFrom manyFlaw lexicalOf verbNames longNames shortNames names lowered lower find verbOf optionOf kinds kindOf allName sessionName isName isKeep isLevel isPlace isPlainSign endsQuote isText itemsIn isList listOf textOf valueOf entryOf entryParts entriesOf saidOf propertyOf topicOf tagLen isNumbered isStarred isSegment areSegments segmentsOf pathOf targetOf reachOf reachBy digitMore isAllLetter allStep firstStep startStep partStep tagEnd tagStep numberStep freeStep commaStep isNameByte nameStep textOn valueStep saidStep inText itemsNext itemsOn inItems allowed cellOf rows decideVerb decideOption decideArgument decideTarget decideProperty decideAfter decide walkTerms readingOf recordsOf
 lines-answers = refl
 
 -- the same of request b's lines
 pub lines-of-b : map (λ (l : String × List ℕ). listedIn (readingOf (bytes (l .0)))) linesOfB ≡ map (λ (l : String × List ℕ). l .1) linesOfB
-unfolding linesOfB bytes oneOf sameBytes isWord allOf anyOf upTo past runLen parts walk every valueFrom isDecimal twelve two after gives signs raws stands termsFrom termsOf longFlaw oddFlaw endMode openedAt openFlaw manyFrom manyFlaw lexicalOf verbNames longNames shortNames names lowered lower find verbOf optionOf kinds kindOf allName sessionName isName isKeep isLevel isPlace isPlainSign endsQuote isText itemsIn isList listOf textOf valueOf entryOf entryParts entriesOf saidOf propertyOf topicOf tagLen isNumbered isStarred isSegment areSegments segmentsOf pathOf targetOf allowed cellOf rows decideVerb decideOption decideArgument decideTarget decideProperty decideAfter decide walkTerms readingOf recordsOf
+unfolding linesOfB textOver bytes oneOf sameBytes isWord allOf anyOf upTo past runLen parts walk every valueFrom isDecimal twelve two after gives signs raws stands termsFrom termsOf longFlaw oddFlaw endMode openedAt openFlaw manyFrom manyFlaw lexicalOf verbNames longNames shortNames names lowered lower find verbOf optionOf kinds kindOf allName sessionName isName isKeep isLevel isPlace isPlainSign endsQuote isText itemsIn isList listOf textOf valueOf entryOf entryParts entriesOf saidOf propertyOf topicOf tagLen isNumbered isStarred isSegment areSegments segmentsOf pathOf targetOf reachOf reachBy digitMore isAllLetter allStep firstStep startStep partStep tagEnd tagStep numberStep freeStep commaStep isNameByte nameStep textOn valueStep saidStep inText itemsNext itemsOn inItems allowed cellOf rows decideVerb decideOption decideArgument decideTarget decideProperty decideAfter decide walkTerms readingOf recordsOf
 lines-of-b = refl
 
 -- 20 before 8, which no line shows: a state of verb 1, cd, that has seen option 5, force, which cd can't have
@@ -49,12 +55,12 @@ first-cursor = (refl, refl, refl, refl, refl)
 
 -- where the target of a line stands
 pub target-there : targetIn (readingOf (bytes "show /system1/cpu4")) ≡ span 5 13
-unfolding targetSpan bytes oneOf sameBytes isWord allOf anyOf upTo past runLen parts walk every valueFrom isDecimal twelve two after gives signs raws stands termsFrom termsOf longFlaw oddFlaw endMode openedAt openFlaw manyFrom manyFlaw lexicalOf verbNames longNames shortNames names lowered lower find verbOf optionOf kinds kindOf allName sessionName isName isKeep isLevel isPlace isPlainSign endsQuote isText itemsIn isList listOf textOf valueOf entryOf entryParts entriesOf saidOf propertyOf topicOf tagLen isNumbered isStarred isSegment areSegments segmentsOf pathOf targetOf allowed cellOf rows decideVerb decideOption decideArgument decideTarget decideProperty decideAfter decide walkTerms readingOf
+unfolding targetSpan bytes oneOf sameBytes isWord allOf anyOf upTo past runLen parts walk every valueFrom isDecimal twelve two after gives signs raws stands termsFrom termsOf longFlaw oddFlaw endMode openedAt openFlaw manyFrom manyFlaw lexicalOf verbNames longNames shortNames names lowered lower find verbOf optionOf kinds kindOf allName sessionName isName isKeep isLevel isPlace isPlainSign endsQuote isText itemsIn isList listOf textOf valueOf entryOf entryParts entriesOf saidOf propertyOf topicOf tagLen isNumbered isStarred isSegment areSegments segmentsOf pathOf targetOf reachOf reachBy digitMore isAllLetter allStep firstStep startStep partStep tagEnd tagStep numberStep freeStep commaStep isNameByte nameStep textOn valueStep saidStep inText itemsNext itemsOn inItems allowed cellOf rows decideVerb decideOption decideArgument decideTarget decideProperty decideAfter decide walkTerms readingOf
 target-there = refl
 
 -- a line without a target, and lines that are refused at the target and after it, give no part
 pub no-target : (targetPart (bytes "show") ≡ []) × (targetPart (bytes "cd /system1/") ≡ []) × (targetPart (bytes "reset /system1 -f") ≡ [])
-unfolding targetPart targetSpan bytes oneOf sameBytes isWord allOf anyOf upTo past runLen parts walk every valueFrom isDecimal twelve two after gives signs raws stands termsFrom termsOf longFlaw oddFlaw endMode openedAt openFlaw manyFrom manyFlaw lexicalOf verbNames longNames shortNames names lowered lower find verbOf optionOf kinds kindOf allName sessionName isName isKeep isLevel isPlace isPlainSign endsQuote isText itemsIn isList listOf textOf valueOf entryOf entryParts entriesOf saidOf propertyOf topicOf tagLen isNumbered isStarred isSegment areSegments segmentsOf pathOf targetOf allowed cellOf rows decideVerb decideOption decideArgument decideTarget decideProperty decideAfter decide walkTerms readingOf
+unfolding targetPart targetSpan bytes oneOf sameBytes isWord allOf anyOf upTo past runLen parts walk every valueFrom isDecimal twelve two after gives signs raws stands termsFrom termsOf longFlaw oddFlaw endMode openedAt openFlaw manyFrom manyFlaw lexicalOf verbNames longNames shortNames names lowered lower find verbOf optionOf kinds kindOf allName sessionName isName isKeep isLevel isPlace isPlainSign endsQuote isText itemsIn isList listOf textOf valueOf entryOf entryParts entriesOf saidOf propertyOf topicOf tagLen isNumbered isStarred isSegment areSegments segmentsOf pathOf targetOf reachOf reachBy digitMore isAllLetter allStep firstStep startStep partStep tagEnd tagStep numberStep freeStep commaStep isNameByte nameStep textOn valueStep saidStep inText itemsNext itemsOn inItems allowed cellOf rows decideVerb decideOption decideArgument decideTarget decideProperty decideAfter decide walkTerms readingOf
 no-target = (refl, refl, refl)
 
 -- the records that a lister makes, in room of one byte too few and of the size

@@ -18,7 +18,7 @@ use Rattle.reading.specs.declared.State.{State}
 use Rattle.reading.specs.declared.Cursor.{Cursor}
 use Rattle.reading.specs.declared.Shown.{Shown}
 use Rattle.reading.specs.Command.{Item, verb, option, argument, target, prop, shownOf}
-use Rattle.reading.specs.Reading.{Decision, refuses, takes, decide, next, begin, Part, Reading, refusal, read, adding, going, partOf, walkTerms, readingOf}
+use Rattle.reading.specs.Reading.{Decision, refuses, takes, decide, next, begin, Part, Reading, refusal, read, adding, placeOf, going, partOf, walkTerms, readingOf}
 use Rattle.reading.specs.Records.{recordOf, recordsOf, readRecords, answerIn, roomIn, span, targetSpan, targetIn}
 use Rattle.reading.specs.Cursor.{left, firstCursor}
 use Rattle.reading.specs.Shown.{verdictIn, neededIn, recordsIn, totalFrom, bytesIn, isTarget}
@@ -122,8 +122,8 @@ some-part n s (t ∷ ts) e P f g = go (decide s (t .text))
     put p (refusal k a) = f k a
     put p (read ps) = g p ps
 
-    go : (d : Decision) → P (going d (t .start) (λ i. adding (partOf t i) (walkTerms n (next s i) ts)))
-    go (refuses k) = f k (t .start)
+    go : (d : Decision) → P (going d (placeOf s t) (λ i. adding (partOf t i) (walkTerms n (next s i) ts)))
+    go (refuses k) = f k (placeOf s t k)
     go (takes i) = put (partOf t i) (walkTerms n (next s i) ts)
 
 module _ (line : List ℕ) (e : isNil (termsOf line) ≡ false) where

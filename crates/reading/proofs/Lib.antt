@@ -1,6 +1,7 @@
 pub mod Examples
 pub mod TakenCases
 pub mod Steps
+pub mod PlaceLaws
 pub mod Decisions
 pub mod Sizes
 pub mod Folds
@@ -17,3 +18,4 @@ pub mod CaseLetters
 pub mod EitherCase
 pub mod Only
 pub mod Excluded
+pub mod Asked

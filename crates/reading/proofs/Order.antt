@@ -1,5 +1,5 @@
 -- "Each is given exactly when its row holds and no earlier one does": of a term, and of a line. Assumes nothing.
-use Prim.Native.Nat.{ℕ}
+use Prim.Native.Nat.{ℕ, _+_}
 use mathlib.Core.Path.{_≡_, refl, sym, ap, _∙_}
 use mathlib.Core.List.{List, [], _∷_, _++_}
 use mathlib.Core.Bool.{Bool, true, false, cond, not, _&&_}
@@ -19,12 +19,17 @@ use Rattle.support.specs.Table15.{allowed}
 use Rattle.forms.specs.Forms.{starts, hasEq, propertyOf, topicOf}
 use Rattle.forms.specs.Targets.{targetOf}
 use Rattle.forms.specs.Answers.{isSome}
+use Rattle.reach.specs.declared.Form.{Form}
+use Rattle.reach.specs.Forms.{isOf}
+use Rattle.reach.specs.Reach.{reachOf}
+use Rattle.reach.proofs.Far.{longest-only}
+use Rattle.reach.proofs.Longest.{longest}
 use Rattle.reading.specs.declared.Phase.{Phase}
 use Rattle.reading.specs.declared.Phase.the-variants.{First, Options, Waits, Rest}
 use Rattle.reading.specs.declared.State.{State}
 use Rattle.reading.specs.Command.{argumentBy, Item, verb, option, argument, target, prop}
-use Rattle.reading.specs.Reading.{begin, Decision, refuses, takes, orNo, isHelp, newOption, decideVerb, decideOption, decideArgument, decideTarget, decideProperty, decideAfter, decideIn, decide, next, Part, Reading, refusal, read, adding, ended, partOf, walkTerms, readingOf}
-use Rattle.reading.specs.Order.{isSeen, isExcluded, isWaits, holdsIn, holds, order, isFirstOf, statePast, Refused, byLine, byTerm, byEnd}
+use Rattle.reading.specs.Reading.{begin, Decision, refuses, takes, orNo, isHelp, newOption, decideVerb, decideOption, decideArgument, decideTarget, decideProperty, decideAfter, decideIn, decide, next, Part, Reading, refusal, read, adding, ended, formAsked, pastStart, placeOf, partOf, walkTerms, readingOf}
+use Rattle.reading.specs.Order.{isSeen, isExcluded, isWaits, holdsIn, holds, order, isFirstOf, statePast, Placed, Refused, byLine, byTerm, byEnd}
 
 -- ---- the first row of a list that holds
 
@@ -159,7 +164,7 @@ term-exactly s t k = (
 
 -- a walk that was refused: at its first term that was, or at the line's end
 data Stops (n : ℕ) (s : State) (ts : List Term) (k p : ℕ) : Type 0 where
-  term : (before : List Term) (t : Term) (after : List Term) (u : State) → ts ≡ before ++ (t ∷ after) → statePast s before ≡ some u → t .start ≡ p
+  term : (before : List Term) (t : Term) (after : List Term) (u : State) → ts ≡ before ++ (t ∷ after) → statePast s before ≡ some u → placeOf u t k ≡ p
       → decide u (t .text) ≡ refuses k → Stops n s ts k p
   over : (u : State) → statePast s ts ≡ some u → isWaits (u .phase) ≡ true → k ≡ 9 → p ≡ n → Stops n s ts k p
 
@@ -184,20 +189,23 @@ stops n s (t ∷ ts) k p h = go (decide s (t .text)) refl (λ i. stops n (next s
 
     go : (d : Decision) → decide s (t .text) ≡ d → ((i : Item) → walkTerms n (next s i) ts ≡ refusal k p → Stops n (next s i) ts k p) → Stops n s (t ∷ ts) k p
     go (refuses j) d ih =
-        let z : refusal j (t .start) ≡ refusal k p = rw d at h in
+        let z : refusal j (placeOf s t j) ≡ refusal k p = rw d at h in
         let x : j ≡ k = cc in
-        term [] t ts s refl refl (cc) (d ∙ ap refuses x)
+        let y : placeOf s t j ≡ p = cc in
+        term [] t ts s refl refl (ap (placeOf s t) (sym x) ∙ y) (d ∙ ap refuses x)
     go (takes i) d ih = onward i d (ih i (adding-refused (partOf t i) (walkTerms n (next s i) ts) k p (rw d at h)))
 
 -- and back
 walk-term : (n : ℕ) (s u : State) (before : List Term) (t : Term) (after : List Term) (k : ℕ) → statePast s before ≡ some u → decide u (t .text) ≡ refuses k
-    → walkTerms n s (before ++ (t ∷ after)) ≡ refusal k (t .start)
+    → walkTerms n s (before ++ (t ∷ after)) ≡ refusal k (placeOf u t k)
 unfolding walkTerms statePast
-walk-term n s u [] t after k h d = let z : s ≡ u = Option·some-injective s u h in rw (ap (λ (v : State). decide v (t .text)) z ∙ d)
+walk-term n s u [] t after k h d =
+    let z : s ≡ u = Option·some-injective s u h in
+    rw (ap (λ (v : State). decide v (t .text)) z ∙ d) (ap (λ (v : State). refusal k (placeOf v t k)) z)
 walk-term n s u (b ∷ bs) t after k h d = go (decide s (b .text)) refl (λ i q. walk-term n (next s i) u bs t after k q d)
   where
-    go : (e : Decision) → decide s (b .text) ≡ e → ((i : Item) → statePast (next s i) bs ≡ some u → walkTerms n (next s i) (bs ++ (t ∷ after)) ≡ refusal k (t .start))
-        → walkTerms n s (b ∷ (bs ++ (t ∷ after))) ≡ refusal k (t .start)
+    go : (e : Decision) → decide s (b .text) ≡ e → ((i : Item) → statePast (next s i) bs ≡ some u → walkTerms n (next s i) (bs ++ (t ∷ after)) ≡ refusal k (placeOf u t k))
+        → walkTerms n s (b ∷ (bs ++ (t ∷ after))) ≡ refusal k (placeOf u t k)
     go (refuses j) e ih = let z : _≡_ {A = ℕ} 0 1 = cc (rw e at h) in absurd (omega arith)
     go (takes i) e ih = rw (e, ih i (rw e at h))
 
@@ -217,12 +225,24 @@ walk-end n s u (t ∷ ts) h w = go (decide s (t .text)) refl (λ i q. walk-end n
     go (refuses j) e ih = let z : _≡_ {A = ℕ} 0 1 = cc (rw e at h) in absurd (omega arith)
     go (takes i) e ih = rw (e, ih i (rw e at h))
 
+-- ---- the place of a term
+
+-- as the walk gives it, by the paper's longest beginning, and back
+placed : (o : Option Form) (t : Term) (p : ℕ) → t .start + pastStart o (raws (t .text)) ≡ p → Placed o t p
+placed none t p e = omega arith
+placed (some f) t p e = record { len = reachOf f (raws (t .text)); longest = longest f (raws (t .text)); place = e }
+
+place-back : (o : Option Form) (t : Term) (p : ℕ) → Placed o t p → t .start + pastStart o (raws (t .text)) ≡ p
+place-back none t p e = omega arith
+place-back (some f) t p e =
+    ap (λ (n : ℕ). t .start + n) (longest-only (isOf f) (raws (t .text)) (reachOf f (raws (t .text))) (e .len) (longest f (raws (t .text))) (e .longest)) ∙ e .place
+
 forth : (line : List ℕ) (k p : ℕ) → readingOf line ≡ refusal k p → Refused line k p
 unfolding readingOf
 forth line k p h = go (lexicalOf line) refl
   where
     on : lexicalOf line ≡ Fine → Stops (length line) begin (termsOf line) k p → Refused line k p
-    on f (term b t a u e q g d) = byTerm b t a u f e q g (term-exactly u (t .text) k .0 d)
+    on f (term b t a u e q g d) = byTerm b t a u f e q (placed (formAsked (u .phase) (u .verb) k) t p g) (term-exactly u (t .text) k .0 d)
     on f (over u q w x y) = byEnd u f q w x y
 
     go : (v : Verdict) → lexicalOf line ≡ v → Refused line k p
@@ -233,7 +253,7 @@ back : (line : List ℕ) (k p : ℕ) → Refused line k p → readingOf line ≡
 unfolding readingOf
 back line k p (byLine e) = rw e
 back line k p (byTerm b t a s f e q g h) =
-    rw f (ap (walkTerms (length line) begin) e ∙ walk-term (length line) begin s b t a k q (term-exactly s (t .text) k .1 h) ∙ ap (refusal k) g)
+    rw f (ap (walkTerms (length line) begin) e ∙ walk-term (length line) begin s b t a k q (term-exactly s (t .text) k .1 h) ∙ ap (refusal k) (place-back (formAsked (s .phase) (s .verb) k) t p g))
 back line k p (byEnd s f q w x y) = rw (f, x, y) (walk-end (length line) begin s (termsOf line) q w)
 
 -- OF A LINE: refused as k at p exactly when the first row that holds is k, at p

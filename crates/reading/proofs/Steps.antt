@@ -11,7 +11,7 @@ use lib.Dec.{leb}
 use borrow.Author.Tests.{leb-true}
 use Rattle.text.specs.Lists.{allOf}
 use Rattle.text.specs.Bytes.{isLetter, isWord}
-use Rattle.text.proofs.Slices.{part-from}
+use Rattle.text.proofs.Slices.{part-from, part-between}
 use Rattle.text.proofs.Tests.{and-r}
 use Rattle.terms.specs.declared.Mode.the-variants.{Out}
 use Rattle.terms.specs.declared.Found.{Found}
@@ -19,6 +19,7 @@ use Rattle.terms.specs.declared.Found.the-variants as found
 use Rattle.terms.specs.Signs.{Sign, signs}
 use Rattle.terms.specs.Terms.{Term}
 use Rattle.terms.specs.Scan.{termAt}
+use Rattle.terms.proofs.SignBytes.{raws-signs}
 use Rattle.terms.proofs.NextTerm.{terms-some, terms-none, term-within, term-size}
 use Rattle.forms.specs.Forms.{isName, Property, propertyOf, topicOf}
 use Rattle.reading.specs.declared.Phase.{Phase}
@@ -31,8 +32,8 @@ use Rattle.reading.specs.declared.Offer as declared
 use Rattle.reading.specs.declared.Offer.the-variants as offer
 use Rattle.reading.specs.declared.Step.{Step}
 use Rattle.reading.specs.Command.{Item, verb, option, argument, target, prop, shownOf}
-use Rattle.reading.specs.Reading.{state, isHelp, Decision, refuses, takes, decideIn, decide, next, Part, refusal, read, adding, ended, going, walkTerms}
-use Rattle.reading.specs.Cursor.{decidedOf, nextShown, cursor, step, offerOn, offerEnd, offerAt, offerOf, cursorAfter, stepOf, left}
+use Rattle.reading.specs.Reading.{state, isHelp, Decision, refuses, takes, decideIn, decide, next, Part, refusal, read, adding, ended, formAsked, pastStart, placeOf, going, walkTerms}
+use Rattle.reading.specs.Cursor.{decidedOf, nextShown, cursor, step, termIn, offerOn, offerEnd, offerAt, offerOf, cursorAfter, stepOf, left}
 use Rattle.reading.specs.Shown.{nameSize, counted}
 use Rattle.reading.proofs.TakenCases.{taken-case}
 use Rattle.forms.proofs.FormCases.{topic-from, property-from}
@@ -94,13 +95,13 @@ left-none line c e = rw (terms-none line (c .at) e)
 
 pub left-some : (line : List ℕ) (c : Cursor) (a n : ℕ) → found.Term a n ≡ termAt line (c .at)
     → left line c
-    ≡ going (decide (c .state) (signs Out (take n (drop a line)))) a
+    ≡ going (decide (c .state) (signs Out (take n (drop a line)))) (placeOf (c .state) (termIn line a n))
     (λ i. adding (record { start = a; len = n; item = i }) (left line (cursor (a + n) (next (c .state) i))))
 unfolding left walkTerms
 left-some line c a n e = rw (terms-some line (c .at) a n e, term-size line a n (term-within line (c .at) a n e .fits))
 
 pub left-refused : (line : List ℕ) (c : Cursor) (a n k : ℕ) → found.Term a n ≡ termAt line (c .at)
-    → decide (c .state) (signs Out (take n (drop a line))) ≡ refuses k → left line c ≡ refusal k a
+    → decide (c .state) (signs Out (take n (drop a line))) ≡ refuses k → left line c ≡ refusal k (placeOf (c .state) (termIn line a n) k)
 left-refused line c a n k e d = left-some line c a n e ∙ rw d
 
 pub left-takes : (line : List ℕ) (c : Cursor) (a n : ℕ) (i : Item) → found.Term a n ≡ termAt line (c .at)
@@ -141,8 +142,8 @@ how line c g is = go (termAt line (c .at)) refl
     over-in Rest l h = over l h
 
     by : (a n : ℕ) (d : Decision) → found.Term a n ≡ termAt line (c .at) → decide (c .state) (signs Out (take n (drop a line))) ≡ d
-        → g ≡ offerOn a n (decidedOf d) → How line c g
-    by a n (refuses k) e q h = no k a (left-refused line c a n k e q) h
+        → g ≡ offerOn (placeOf (c .state) (termIn line a n)) a n (decidedOf d) → How line c g
+    by a n (refuses k) e q h = no k (placeOf (c .state) (termIn line a n) k) (left-refused line c a n k e q) h
     by a n (takes i) e q h = part i a n e q h
 
     go : (f : Found) → termAt line (c .at) ≡ f → How line c g
@@ -226,10 +227,16 @@ none-given line a s e = ap (offerAt line s) e
 -- with one, by the decision on it; the term begins the part of the line that begins at b
 pub term-given : (line : List ℕ) (a : ℕ) (s : State) (b n : ℕ) (d : Decided) → found.Term b n ≡ termAt line a
     → d ≡ decidedOf (decideIn (s .phase) (s .verb) (s .seen) (s .count) (signs Out (take n (take (length line - b) (drop b line)))))
-    → offerOn b n d ≡ offerOf line a s
+    → offerOn (placeOf s (termIn line b n)) b n d ≡ offerOf line a s
 unfolding offerOf decide
 term-given line a s b n d e h =
-    ap (offerOn b n) (h ∙ ap (λ (t : List ℕ). decidedOf (decide s (signs Out (take n t)))) (part-from line b)) ∙ ap (offerAt line s) e
+    ap (offerOn (placeOf s (termIn line b n)) b n) (h ∙ ap (λ (t : List ℕ). decidedOf (decide s (signs Out (take n t)))) (part-from line b)) ∙ ap (offerAt line s) e
+
+-- where it is refused, at its place; the part is `&line[b..b + n]`
+pub place-given : (line : List ℕ) (s : State) (b n k r : ℕ) → r ≡ pastStart (formAsked (s .phase) (s .verb) k) (take (b + n - b) (drop b line))
+    → b + r ≡ placeOf s (termIn line b n) k
+place-given line s b n k r e =
+    ap (λ (z : ℕ). b + z) (e ∙ ap (pastStart (formAsked (s .phase) (s .verb) k)) (part-between line b n ∙ sym (raws-signs (take n (drop b line)))))
 
 -- a step by what is given
 pub step-of : (line : List ℕ) (c : Cursor) (g : declared.Offer) → g ≡ offerOf line (c .at) (c .state) → step g (cursorAfter c g) ≡ stepOf line c

@@ -12,6 +12,8 @@ use Rattle.words.specs.Words.{lowered}
 use Rattle.forms.specs.Forms.{Entry, Property, isKeep, isLevel, isPlace, entriesOf}
 use Rattle.forms.specs.Targets.{Target}
 use Rattle.forms.specs.Answers.{operatorOf}
+use Rattle.reach.specs.declared.Form.{Form}
+use Rattle.reach.specs.declared.Form.the-variants as form
 use Rattle.reading.specs.declared.Shown.{Shown}
 use Rattle.reading.specs.declared.Shown.the-variants as shown
 
@@ -28,6 +30,14 @@ argumentBy Keep t = cond (isKeep (raws t)) (some (numeral (raws t))) none
 argumentBy Level t = cond (isLevel (raws t)) (some (numeral (lowered (raws t)))) none
 argumentBy Place t = cond (isPlace t) (some (text (stands t))) none
 argumentBy Entries t = given (entriesOf t) (λ es. some (items es))
+
+-- the form that it is asked for; an option that takes no argument asks for none
+abbrev pub argumentForm : Kind → Option Form
+argumentForm Mere = none
+argumentForm Keep = some form.Keep
+argumentForm Level = some form.Level
+argumentForm Place = some form.Place
+argumentForm Entries = some form.Entries
 
 -- A command is the list of its parts. An option and its argument are two terms, so two parts; the argument's has the option's number again.
 pub data Item : Type 0 where

@@ -7,7 +7,7 @@ use Rattle.terms.specs.declared.Mode.the-variants.{Out}
 use Rattle.terms.specs.declared.Found.{Found}
 use Rattle.terms.specs.declared.Found.the-variants as found
 use Rattle.terms.specs.Signs.{signs}
-use Rattle.terms.specs.Terms.{termsFrom}
+use Rattle.terms.specs.Terms.{Term, termsFrom}
 use Rattle.terms.specs.Scan.{termAt}
 use Rattle.words.specs.Words.{kindOf}
 use Rattle.reading.specs.declared.Phase.{Phase}
@@ -22,7 +22,7 @@ use Rattle.reading.specs.declared.Offer.{Offer}
 use Rattle.reading.specs.declared.Offer.the-variants as offer
 use Rattle.reading.specs.declared.Step.{Step}
 use Rattle.reading.specs.Command.{shownOf}
-use Rattle.reading.specs.Reading.{state, begin, Decision, refuses, takes, decide, phaseAfter, Reading, walkTerms}
+use Rattle.reading.specs.Reading.{state, begin, Decision, refuses, takes, decide, phaseAfter, placeOf, Reading, walkTerms}
 
 abbrev pub decidedOf : Decision → Decided
 decidedOf (refuses n) = Refuses n
@@ -42,10 +42,14 @@ cursor a s = record { at = a; state = s }
 abbrev pub step : Offer → Cursor → Step
 step g c = record { offer = g; next = c }
 
--- what a term of n bytes that begins at a gives, by the decision on it: a part with its start and length, or a refusal
-abbrev pub offerOn : ℕ → ℕ → Decided → Offer
-offerOn a n (Takes i) = offer.Part i a n
-offerOn a n (Refuses k) = offer.Refused k a
+-- the term of n bytes that begins at a
+abbrev pub termIn : List ℕ → ℕ → ℕ → Term
+termIn line a n = record { start = a; text = signs Out (take n (drop a line)) }
+
+-- what such a term gives, by the decision on it: a part with its start and length, or a refusal with its place
+abbrev pub offerOn : (ℕ → ℕ) → ℕ → ℕ → Decided → Offer
+offerOn place a n (Takes i) = offer.Part i a n
+offerOn place a n (Refuses k) = offer.Refused k (place k)
 
 -- a line that ends while an option waits is refused as 9, at its length
 abbrev pub offerEnd : ℕ → Phase → Offer
@@ -56,7 +60,7 @@ offerEnd n Rest = offer.End
 
 abbrev pub offerAt : List ℕ → State → Found → Offer
 offerAt line s found.None = offerEnd (length line) (s .phase)
-offerAt line s (found.Term a n) = offerOn a n (decidedOf (decide s (signs Out (take n (drop a line)))))
+offerAt line s (found.Term a n) = offerOn (placeOf s (termIn line a n)) a n (decidedOf (decide s (signs Out (take n (drop a line)))))
 
 -- what the next term from a place on gives, in a state
 unfoldable pub offerOf : List ℕ → ℕ → State → Offer

@@ -16,7 +16,7 @@ use Rattle.words.specs.Words.{verbOf, optionOf}
 use Rattle.support.specs.Table15.{allowed}
 use Rattle.reading.specs.declared.State.{State}
 use Rattle.reading.specs.Command.{Item, verb, option, argument, target, prop}
-use Rattle.reading.specs.Reading.{begin, Decision, refuses, takes, decide, next, Reading, refusal, read, adding, ended, partOf, going, unless}
+use Rattle.reading.specs.Reading.{begin, Decision, refuses, takes, decide, next, Reading, refusal, read, adding, ended, partOf, placeOf, going, unless}
 use Rattle.reading.specs.Order.{isOptionHere, statePast}
 
 -- can this verb have this part? The table speaks of an option, and so of its argument; any other part it can have.
@@ -70,7 +70,7 @@ decideFree s t = cond (isOptionHere (s .phase) t) (optionFree (s .seen) (optionO
 
 unfoldable pub walkFree : ℕ → State → List Term → Reading
 walkFree n s [] = ended (s .phase) n
-walkFree n s (t ∷ ts) = going (decideFree s (t .text)) (t .start) (λ i. adding (partOf t i) (walkFree n (next s i) ts))
+walkFree n s (t ∷ ts) = going (decideFree s (t .text)) (placeOf s t) (λ i. adding (partOf t i) (walkFree n (next s i) ts))
 
 unfoldable pub readingFree : List ℕ → Reading
 readingFree line = let r = walkFree (length line) begin (termsOf line) in unless (lexicalOf line) r

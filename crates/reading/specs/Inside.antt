@@ -1,9 +1,17 @@
--- Where parts of a line stand.
-use Prim.Native.Nat.{ℕ, _+_}
-use mathlib.Core.List.{List, [], _∷_}
-use mathlib.Core.Bool.{Bool, _&&_}
+-- Where parts of a line stand, and where a place does.
+use Prim.Native.Nat.{ℕ, _+_, _-_, _<_, _≤_}
+use mathlib.Core.Path.{_≡_}
+use mathlib.Core.List.{List, [], _∷_, _++_}
+use mathlib.Core.Bool.{Bool, false, _&&_}
+use lib.ListN.{take}
 use lib.Dec.{leb, ltb}
 use Rattle.text.specs.Lists.{allOf}
+use Rattle.terms.specs.declared.Mode.the-variants.{Out}
+use Rattle.terms.specs.Signs.{raws}
+use Rattle.terms.specs.Terms.{Term, termsOf}
+use Rattle.terms.specs.Rows.{endMode}
+use Rattle.terms.specs.Going.{sizeOf}
+use Rattle.reach.specs.Pairs.{graveWaits}
 use Rattle.reading.specs.declared.Span.{Span}
 use Rattle.reading.specs.Command.{shownOf}
 use Rattle.reading.specs.Reading.{Part}
@@ -34,3 +42,13 @@ namesItself p = allOf (isWithin (p .start) (p .start + p .len)) (spansOf p)
 -- do all of them lie in the first n bytes?
 abbrev pub isInside : ℕ → Part → Bool
 isInside n p = allOf (isWithin 0 n) (spansOf p)
+
+-- p lies in a term of the line or at its end, and never between a GRAVE and the byte that it takes with it
+pub record InTerm (line : List ℕ) (p : ℕ) : Type 0 where
+  pub before : List Term
+  pub term : Term
+  pub after : List Term
+  pub among : termsOf line ≡ before ++ (term ∷ after)
+  pub from : term .start ≤ p
+  pub to : p ≤ term .start + sizeOf term
+  pub unsplit : p < term .start + sizeOf term → graveWaits (endMode Out (take (p - term .start) (raws (term .text)))) ≡ false

@@ -3,7 +3,7 @@ use Prim.Native.Nat.{ℕ}
 use Prim.Native.String.{String}
 use mathlib.Core.List.{List, [], _∷_}
 
--- document 01's thirteen, `Show` as request a has it
+-- document 01's thirteen, `Show` as request a has it and the places of 10, 12 and 13 as request c has them
 unfoldable pub lines : List (String × List ℕ)
 lines =
     ("", 6 ∷ [])
@@ -12,13 +12,13 @@ lines =
     ∷ ("Show", 1 ∷ 10 ∷ [])
     ∷ ("reset -f -force", 5 ∷ 8 ∷ 0 ∷ 9 ∷ [])
     ∷ ("show -level", 5 ∷ 9 ∷ 0 ∷ 11 ∷ [])
-    ∷ ("show -level 02", 5 ∷ 10 ∷ 0 ∷ 12 ∷ [])
+    ∷ ("show -level 02", 5 ∷ 10 ∷ 0 ∷ 13 ∷ [])
     ∷ ("set Name=\"a b\"", 1 ∷ 9 ∷ 4 ∷ 0 ∷ 4 ∷ 0 ∷ 4 ∷ 1 ∷ 0 ∷ 9 ∷ 0 ∷ 5 ∷ [])
     ∷ ("set Name=a` b", 1 ∷ 9 ∷ 4 ∷ 0 ∷ 4 ∷ 0 ∷ 4 ∷ 1 ∷ 0 ∷ 9 ∷ 0 ∷ 4 ∷ [])
     ∷ ("reset \"os1", 5 ∷ 4 ∷ 0 ∷ 6 ∷ [])
     ∷ ("reset /system1 -f", 5 ∷ 11 ∷ 0 ∷ 15 ∷ [])
-    ∷ ("cd /system1/", 5 ∷ 12 ∷ 0 ∷ 3 ∷ [])
-    ∷ ("set a=b=c", 5 ∷ 13 ∷ 0 ∷ 4 ∷ [])
+    ∷ ("cd /system1/", 5 ∷ 12 ∷ 0 ∷ 12 ∷ [])
+    ∷ ("set a=b=c", 5 ∷ 13 ∷ 0 ∷ 7 ∷ [])
     ∷ []
 
 -- request b's, as its points are read: 20 where the option first stands, whatever follows it; a term that is not read as an option is never 20

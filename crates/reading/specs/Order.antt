@@ -1,5 +1,5 @@
 -- Numbers a refused caller gets, rows 6 to 14 and 20: the condition of each row by itself, the order of the rows, and what a refused line is.
-use Prim.Native.Nat.{ℕ}
+use Prim.Native.Nat.{ℕ, _+_}
 use mathlib.Core.Path.{_≡_}
 use mathlib.Core.List.{List, [], _∷_, _++_}
 use mathlib.Core.Bool.{Bool, true, false, cond, not, _&&_, _||_}
@@ -15,11 +15,14 @@ use Rattle.support.specs.Table15.{allowed}
 use Rattle.forms.specs.Forms.{starts, hasEq, propertyOf, topicOf}
 use Rattle.forms.specs.Targets.{targetOf}
 use Rattle.forms.specs.Answers.{isSome}
+use Rattle.reach.specs.declared.Form.{Form}
+use Rattle.reach.specs.Beginnings.{Longest}
+use Rattle.reach.specs.Forms.{isOf}
 use Rattle.reading.specs.declared.Phase.{Phase}
 use Rattle.reading.specs.declared.Phase.the-variants.{First, Options, Waits, Rest}
 use Rattle.reading.specs.declared.State.{State}
 use Rattle.reading.specs.Command.{Item, argumentBy}
-use Rattle.reading.specs.Reading.{begin, isHelp, Decision, refuses, takes, decide, next}
+use Rattle.reading.specs.Reading.{begin, isHelp, Decision, refuses, takes, decide, next, formAsked}
 
 -- ---- the places of a command: the verb's; the options'; the place after an option that takes an argument; after the options' end
 
@@ -157,10 +160,21 @@ unfoldable pub statePast : State → List Term → Option State
 statePast s [] = some s
 statePast s (t ∷ ts) = stateOn (decide s (t .text)) (λ i. statePast (next s i) ts)
 
--- rows 1 to 5 give it; or none of them holds, all terms before the one at p are taken, and k is the first row that holds there; or all terms are
--- taken, an option still waits for its argument, and it is 9 at the line's length
+-- the place of a term that is refused: its start; where it is not of its form, the end of its longest beginning that is also a beginning of some acceptable text of
+-- that form
+pub record EndsIn (f : Form) (t : Term) (p : ℕ) : Type 0 where
+  pub len : ℕ
+  pub longest : Longest (isOf f) (raws (t .text)) len
+  pub place : t .start + len ≡ p
+
+abbrev pub Placed : Option Form → Term → ℕ → Type 0
+Placed none t p = t .start ≡ p
+Placed (some f) t p = EndsIn f t p
+
+-- rows 1 to 5 give it; or none of them holds, all terms before one of them are taken, k is the first row that holds of that one, and p is its place; or all terms
+-- are taken, an option still waits for its argument, and it is 9 at the line's length
 pub data Refused (line : List ℕ) (k p : ℕ) : Type 0 where
   byLine : lexicalOf line ≡ Flawed k p → Refused line k p
   byTerm : (before : List Term) (t : Term) (after : List Term) (s : State) → lexicalOf line ≡ Fine → termsOf line ≡ before ++ (t ∷ after)
-      → statePast begin before ≡ some s → t .start ≡ p → isFirstOf (holds s (t .text)) order k ≡ true → Refused line k p
+      → statePast begin before ≡ some s → Placed (formAsked (s .phase) (s .verb) k) t p → isFirstOf (holds s (t .text)) order k ≡ true → Refused line k p
   byEnd : (s : State) → lexicalOf line ≡ Fine → statePast begin (termsOf line) ≡ some s → isWaits (s .phase) ≡ true → k ≡ 9 → p ≡ length line → Refused line k p

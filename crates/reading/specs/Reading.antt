@@ -16,10 +16,13 @@ use Rattle.words.specs.Words.{verbOf, optionOf, kindOf}
 use Rattle.support.specs.Table15.{allowed}
 use Rattle.forms.specs.Forms.{starts, hasEq, propertyOf, topicOf}
 use Rattle.forms.specs.Targets.{targetOf}
+use Rattle.reach.specs.declared.Form.{Form}
+use Rattle.reach.specs.declared.Form.the-variants as form
+use Rattle.reach.specs.Reach.{reachOf}
 use Rattle.reading.specs.declared.Phase.{Phase}
 use Rattle.reading.specs.declared.Phase.the-variants.{First, Options, Waits, Rest}
 use Rattle.reading.specs.declared.State.{State}
-use Rattle.reading.specs.Command.{argumentBy, Item, verb, option, argument, target, prop}
+use Rattle.reading.specs.Command.{argumentBy, argumentForm, Item, verb, option, argument, target, prop}
 
 -- A state: what may come next (the verb; options, the target or a property; the argument of an option; properties alone), the verb's number (0 before it),
 -- the options seen, the properties counted.
@@ -120,15 +123,40 @@ ended Rest n = read []
 abbrev pub partOf : Term → Item → Part
 partOf t i = record { start = t .start; len = length (raws (t .text)); item = i }
 
--- places are the starts of terms
-abbrev pub going : Decision → ℕ → (Item → Reading) → Reading
-going (refuses k) p f = refusal k p
-going (takes i) p f = f i
+-- ---- places
+
+-- the form that a term is not of, where it is refused by k: 10, the argument of the option that waits; 12, a target; 13, a property, with help a topic
+abbrev pub waitingForm : Phase → Option Form
+waitingForm First = none
+waitingForm Options = none
+waitingForm (Waits n) = argumentForm (kindOf n)
+waitingForm Rest = none
+
+abbrev pub propertyForm : Bool → Form
+propertyForm help = cond help form.Topic form.Property
+
+abbrev pub formAsked : Phase → ℕ → ℕ → Option Form
+formAsked p v k = cond (eqb k 10) (waitingForm p) (cond (eqb k 12) (some form.Target) (cond (eqb k 13) (some (propertyForm (isHelp v))) none))
+
+-- Places are the starts of terms; where a term is not of its form, the place is the end of its longest beginning that is also a beginning of some acceptable text
+-- of that form (request c). reach/proofs/Longest has it that `reachOf` is its length.
+abbrev pub pastStart : Option Form → List ℕ → ℕ
+pastStart none t = 0
+pastStart (some f) t = reachOf f t
+
+abbrev pub placeOf : State → Term → ℕ → ℕ
+placeOf s t k = t .start + pastStart (formAsked (s .phase) (s .verb) k) (raws (t .text))
+
+-- ---- the walk
+
+abbrev pub going : Decision → (ℕ → ℕ) → (Item → Reading) → Reading
+going (refuses k) place f = refusal k (place k)
+going (takes i) place f = f i
 
 -- n is the line's length
 unfoldable pub walkTerms : ℕ → State → List Term → Reading
 walkTerms n s [] = ended (s .phase) n
-walkTerms n s (t ∷ ts) = going (decide s (t .text)) (t .start) (λ i. adding (partOf t i) (walkTerms n (next s i) ts))
+walkTerms n s (t ∷ ts) = going (decide s (t .text)) (placeOf s t) (λ i. adding (partOf t i) (walkTerms n (next s i) ts))
 
 -- 1 to 5 come first
 abbrev pub unless : Verdict → Reading → Reading

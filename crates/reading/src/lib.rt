@@ -1,6 +1,7 @@
 // A line's reading: its items one step at a time, its records, its target.
 use forms::Shape;
 use forms::Where;
+use reach::Form;
 use terms::Found;
 use text::Answer;
 use text::Verdict;
@@ -18,7 +19,9 @@ ghost use Rattle.terms.specs.declared.Mode.the-variants.{Out};
 ghost use Rattle.terms.specs.Signs.{signs};
 ghost use Rattle.terms.specs.Terms.{termsOf};
 ghost use Rattle.words.specs.Words.{kindOf};
-ghost use Rattle.reading.specs.Reading.{decideVerb, decideOption, decideArgument, decideTarget, decideProperty, decideAfter, decideIn, phaseAfter, readingOf};
+ghost use Rattle.reach.specs.Reach.{reachOf};
+ghost use Rattle.reading.specs.Command.{argumentForm};
+ghost use Rattle.reading.specs.Reading.{decideVerb, decideOption, decideArgument, decideTarget, decideProperty, decideAfter, decideIn, phaseAfter, waitingForm, propertyForm, formAsked, pastStart, readingOf};
 ghost use Rattle.reading.specs.Records.{byte, part, bytesOf, optionFields, recordOf, answerIn, roomIn, refusalRecord, cutRecord, span, targetIn, targetPart};
 ghost use Rattle.reading.specs.Cursor.{decidedOf, nextShown, offerEnd, offerOf, stepOf, left, firstCursor};
 ghost use Rattle.reading.specs.Shown.{verdictIn, neededIn, byShape, argumentIf, nameSize, counted, recordsIn, totalFrom, bytesIn, isTarget};
@@ -231,6 +234,59 @@ fn decide_in(s: &[u8], n: usize, phase: Phase, verb: u8, seen: [bool; 13], count
     }
 }
 
+// ---- the place of a term that is refused, past its start: not of its form, it goes as far as its longest beginning that some text of that form begins with
+
+// An option's argument.
+fn past_argument(t: &[u8], option: u8) -> usize
+    ensures { λ r. ⌜ r ≡ pastStart (argumentForm (kindOf option)) (now (t .entry)) ⌝ }
+{
+    let kind = words::kind_of(option);
+    match kind {
+        Kind::Mere => 0,
+        Kind::Keep => reach::reach(t, Form::Keep),
+        Kind::Level => reach::reach(t, Form::Level),
+        Kind::Place => reach::reach(t, Form::Place),
+        Kind::Entries => reach::reach(t, Form::Entries),
+    }
+}
+
+// The argument of the option that waits.
+fn past_waiting(t: &[u8], phase: Phase) -> usize
+    ensures { λ r. ⌜ r ≡ pastStart (waitingForm phase) (now (t .entry)) ⌝ }
+{
+    match phase {
+        Phase::First => 0,
+        Phase::Options => 0,
+        Phase::Waits(option) => past_argument(t, option),
+        Phase::Rest => 0,
+    }
+}
+
+// A property; with help, a topic.
+fn past_property(t: &[u8], help: bool) -> usize
+    ensures { λ r. ⌜ r ≡ reachOf (propertyForm help) (now (t .entry)) ⌝ }
+{
+    if help {
+        return reach::reach(t, Form::Topic);
+    }
+    reach::reach(t, Form::Property)
+}
+
+fn past_start(t: &[u8], phase: Phase, verb: u8, number: u8) -> usize
+    ensures { λ r. ⌜ r ≡ pastStart (formAsked phase verb number) (now (t .entry)) ⌝ }
+{
+    if number == 10 {
+        return past_waiting(t, phase);
+    }
+    if number == 12 {
+        return reach::reach(t, Form::Target);
+    }
+    if number == 13 {
+        return past_property(t, verb == 6);
+    }
+    0
+}
+
 // ---- one step
 
 fn marked(seen: [bool; 13], n: u8) -> [bool; 13]
@@ -336,10 +392,14 @@ fn offer_next(line: &[u8], at: usize, state: State) -> Offer
     let d = decide_in(&line[start..], len, phase, verb, seen, count);
     match d {
         Decided::Takes(item) => Offer::Part { item, start, len },
-        Decided::Refuses(number) => Offer::Refused {
-            number,
-            place: start,
-        },
+        Decided::Refuses(number) => {
+            let end = start + len;
+            let past = past_start(&line[start..end], phase, verb, number);
+            Offer::Refused {
+                number,
+                place: start + past,
+            }
+        }
     }
 }
 

@@ -11,6 +11,10 @@ use Rattle.text.specs.Room.{wrote, fitted, filled}
 use Rattle.text.specs.declared.Answer.the-variants as answer
 use Rattle.words.specs.Words.{sessionName}
 use Rattle.forms.specs.Targets.{tagLen, isNumbered, isStarred, isSegment, areSegments, segmentOf, segmentsOf, pathOf, targetOf}
+use Rattle.reach.specs.Machine.{reachBy}
+use Rattle.reach.specs.Numbers.{digitMore}
+use Rattle.reach.specs.Roads.{startStep, partStep, tagEnd, tagStep, numberStep}
+use Rattle.reach.specs.Reach.{reachOf}
 use Rattle.tree.specs.declared.Checked.the-variants.{Good, Bad}
 use Rattle.tree.specs.declared.Resolved.{Resolved}
 use Rattle.tree.specs.declared.Resolved.the-variants as resolved
@@ -48,11 +52,11 @@ resolving : map addressed texts
     ∷ (resolved.Refused 18 1, 9 ∷ 9 ∷ [])
     ∷ (resolved.Nodes 1, 4 ∷ 9 ∷ [])
     ∷ (resolved.Session, 9 ∷ 9 ∷ [])
-    ∷ (resolved.Refused 12 0, 9 ∷ 9 ∷ [])
+    ∷ (resolved.Refused 12 3, 9 ∷ 9 ∷ [])
     ∷ (resolved.Refused 18 0, 9 ∷ 9 ∷ [])
-    ∷ (resolved.Refused 12 0, 9 ∷ 9 ∷ [])
+    ∷ (resolved.Refused 12 7, 9 ∷ 9 ∷ [])
     ∷ []
-unfolding texts addressed small node bytes sameBytes allOf anyOf parts runLen valueFrom isDecimal wrote filled sessionName tagLen isNumbered isStarred isSegment areSegments segmentOf segmentsOf pathOf targetOf tagIn paddingIn sameNode twinIn twin badForm badRecord checkFrom checkTree recordAt nodesFrom taggedIn namedIn isTagged isNamed taggedUnder namedUnder along instancesOf resolveOf resolveList
+unfolding texts addressed small node bytes sameBytes allOf anyOf parts runLen valueFrom isDecimal wrote filled sessionName tagLen isNumbered isStarred isSegment areSegments segmentOf segmentsOf pathOf targetOf reachOf reachBy digitMore startStep partStep tagEnd tagStep numberStep tagIn paddingIn sameNode twinIn twin badForm badRecord checkFrom checkTree recordAt nodesFrom taggedIn namedIn isTagged isNamed taggedUnder namedUnder along instancesOf resolveOf resolveList
 resolving = refl
 
 -- a good tree, where the node just before one is its parent; a twin; a parent that is the record itself; a byte of padding that is not zero

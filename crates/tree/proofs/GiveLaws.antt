@@ -23,6 +23,8 @@ use Rattle.forms.specs.declared.Where.{Where}
 use Rattle.forms.specs.declared.Where.the-variants as where′
 use Rattle.forms.specs.Targets.{isSeparator, areSegments, Target, session, path, segmentsOf, pathOf, targetOf}
 use Rattle.forms.specs.Answers.{whereOf, whereIn}
+use Rattle.reach.specs.declared.Form.the-variants as form
+use Rattle.reach.specs.Reach.{reachOf}
 use Rattle.tree.specs.declared.Checked.{Checked}
 use Rattle.tree.specs.declared.Checked.the-variants.{Good, Bad}
 use Rattle.tree.specs.declared.Resolved.{Resolved}
@@ -301,7 +303,7 @@ module _ (t : List ℕ) (d : ℕ) where
   found-empty (b ∷ s) e = absurd (omega arith)
 
   module _ (text : List ℕ) (some′ : length text ≡ 0 → ⊥) (w : Where) (r : w ≡ whereIn text) where
-    found-by : (text : List ℕ) → (length text ≡ 0 → ⊥) → instancesOf text t d ≡ orForm (targetOf text) t d
+    found-by : (text : List ℕ) → (length text ≡ 0 → ⊥) → instancesOf text t d ≡ orForm text (targetOf text) t d
     unfolding instancesOf
     found-by [] h = absurd (h refl)
     found-by (b ∷ s) h = refl
@@ -310,18 +312,18 @@ module _ (t : List ℕ) (d : ℕ) where
     unfolding whereIn
     said-form = sym r
 
-    pub found-no : w ≡ where′.No → instancesOf text t d ≡ unresolved 12 0
-    found-no q = found-by text some′ ∙ ap (λ (o : Option Target). orForm o t d) (is-no (targetOf text) (said-form ∙ q))
+    pub found-no : w ≡ where′.No → instancesOf text t d ≡ unresolved 12 (reachOf form.Target text)
+    found-no q = found-by text some′ ∙ ap (λ (o : Option Target). orForm text o t d) (is-no (targetOf text) (said-form ∙ q))
 
     pub found-session : w ≡ where′.Session → instancesOf text t d ≡ inTree (checkTree t) t d session′
-    found-session q = found-by text some′ ∙ ap (λ (o : Option Target). orForm o t d) (is-session (targetOf text) (said-form ∙ q))
+    found-session q = found-by text some′ ∙ ap (λ (o : Option Target). orForm text o t d) (is-session (targetOf text) (said-form ∙ q))
 
     module _ (rooted : Bool) (n : ℕ) (q : w ≡ where′.Path rooted n) where
       its : (ss : List (List ℕ)) × (targetOf text ≡ some (path rooted ss)) × (n ≡ length ss)
       its = is-path (targetOf text) rooted n (said-form ∙ q)
 
       found-path : instancesOf text t d ≡ inTree (checkTree t) t d (from t d (path rooted (its .0)))
-      found-path = found-by text some′ ∙ ap (λ (o : Option Target). orForm o t d) (its .1)
+      found-path = found-by text some′ ∙ ap (λ (o : Option Target). orForm text o t d) (its .1)
 
       pub found-root : n ≡ 0 → instancesOf text t d ≡ inTree (checkTree t) t d (alongFrom text t 0 2)
       unfolding alongFrom segmentsFrom along
@@ -406,11 +408,11 @@ module _ (text t : List ℕ) (d : ℕ) where
       go false = refl
 
   module _ (some′ : length text ≡ 0 → ⊥) (w : Where) (r : w ≡ whereIn text) where
-    pub no-answer : (room : ℕ) → w ≡ where′.No → resolved.Refused 12 0 ≡ resolveOf room text t d
-    no-answer room q = answer-as room (unresolved 12 0) (found-no t d text some′ w r q)
+    pub no-answer : (room p : ℕ) → w ≡ where′.No → p ≡ reachOf form.Target text → resolved.Refused 12 p ≡ resolveOf room text t d
+    no-answer room p q z = ap (resolved.Refused 12) z ∙ answer-as room (unresolved 12 (reachOf form.Target text)) (found-no t d text some′ w r q)
 
     pub no-list : (room : List ℕ) → w ≡ where′.No → room ≡ resolveList room text t d
-    no-list room q = list-as room (unresolved 12 0) (found-no t d text some′ w r q)
+    no-list room q = list-as room (unresolved 12 (reachOf form.Target text)) (found-no t d text some′ w r q)
 
     pub session-answer : (room : ℕ) (x : Resolved) → w ≡ where′.Session → x ≡ resolvedBy 0 (inTree (checkTree t) t d session′) → x ≡ resolveOf room text t d
     session-answer room x q v = v ∙ session-room (checkTree t) room ∙ answer-as room (inTree (checkTree t) t d session′) (found-session t d text some′ w r q)

@@ -9,3 +9,4 @@ pub mod ResolveLaws
 pub mod PathLaws
 pub mod Only
 pub mod Examples
+pub mod Twelve

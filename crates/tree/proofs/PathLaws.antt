@@ -25,6 +25,8 @@ use Rattle.text.proofs.Slices.{drop-take}
 use Rattle.text.proofs.Writes.{filled-room}
 use Rattle.words.specs.Words.{sessionName}
 use Rattle.forms.specs.Targets.{isSeparator, tagLen, isTagLen, isNumbered, isStarred, isSegment, areSegments, Segment, child, segmentOf, Target, path, segmentsOf, pathOf, targetOf}
+use Rattle.reach.specs.declared.Form.the-variants as form
+use Rattle.reach.specs.Reach.{reachOf}
 use Rattle.tree.specs.declared.Checked.{Checked}
 use Rattle.tree.specs.declared.Checked.the-variants.{Good}
 use Rattle.tree.specs.declared.Resolved.the-variants as resolved
@@ -316,7 +318,7 @@ full-ways : (t : List ℕ) (k : ℕ) → 1 ≤ k → fullPath t k ≡ each 47 (s
 unfolding fullPath segmentsTo
 full-ways t k one = rw (ne-eqb k 0 (λ z. omega arith)) (path-ways t k k)
 
-found-each : (s : List ℕ) (ss : List (List ℕ)) (t : List ℕ) (d : ℕ) → instancesOf (each 47 (s ∷ ss)) t d ≡ orForm (targetOf (each 47 (s ∷ ss))) t d
+found-each : (s : List ℕ) (ss : List (List ℕ)) (t : List ℕ) (d : ℕ) → instancesOf (each 47 (s ∷ ss)) t d ≡ orForm (each 47 (s ∷ ss)) (targetOf (each 47 (s ∷ ss))) t d
 unfolding instancesOf each
 found-each s ss t d = refl
 
@@ -337,14 +339,16 @@ module _ (t : List ℕ) (good : checkTree t ≡ Good) (byte : (i : ℕ) → getD
   all-parted = ways-all t good byte (λ w. not (anyOf isSeparator w)) (λ j x y. node-solid t good byte j x y) k k here
 
   found-ways : (s : List ℕ) (ss : List (List ℕ)) → 1 ≤ k → segmentsTo t k ≡ s ∷ ss
-      → instancesOf (fullPath t k) t d ≡ orForm (cond (leb (length (segmentsTo t k)) 16) (some (path true (segmentsTo t k))) none) t d
+      → instancesOf (fullPath t k) t d ≡ orForm (fullPath t k) (cond (leb (length (segmentsTo t k)) 16) (some (path true (segmentsTo t k))) none) t d
   found-ways s ss one e =
       let a : allOf isSegment (s ∷ ss) ≡ true = ap (allOf isSegment) (sym e) ∙ all-form in
       let b : allOf (λ w. not (anyOf isSeparator w)) (s ∷ ss) ≡ true = ap (allOf (λ w. not (anyOf isSeparator w))) (sym e) ∙ all-parted in
-      ap (λ (l : List ℕ). instancesOf l t d) (full-ways t k one ∙ ap (each 47) e)
+      let way = full-ways t k one ∙ ap (each 47) e in
+      ap (λ (l : List ℕ). instancesOf l t d) way
       ∙ found-each s ss t d
-      ∙ ap (λ (o : Option Target). orForm o t d) (target-each s ss a b)
-      ∙ ap (λ (l : List (List ℕ)). orForm (cond (leb (length l) 16) (some (path true l)) none) t d) (sym e)
+      ∙ ap (λ (l : List ℕ). orForm l (targetOf (each 47 (s ∷ ss))) t d) (sym way)
+      ∙ ap (λ (o : Option Target). orForm (fullPath t k) o t d) (target-each s ss a b)
+      ∙ ap (λ (l : List (List ℕ)). orForm (fullPath t k) (cond (leb (length l) 16) (some (path true l)) none) t d) (sym e)
 
   along-to : along t 0 1 (segmentsTo t k) ≡ nodes (k ∷ [])
   unfolding segmentsTo along
@@ -365,19 +369,19 @@ module _ (t : List ℕ) (good : checkTree t ≡ Good) (byte : (i : ℕ) → getD
       go n [] e = no-case (sym (ap isNil e) ∙ ways-some t k (omega arith))
       go n (s ∷ ss) e =
           found-ways s ss (omega arith) e
-          ∙ ap (λ (b : Bool). orForm (cond b (some (path true (segmentsTo t k))) none) t d) (le-leb (length (segmentsTo t k)) 16 few)
+          ∙ ap (λ (b : Bool). orForm (fullPath t k) (cond b (some (path true (segmentsTo t k))) none) t d) (le-leb (length (segmentsTo t k)) 16 few)
           ∙ in-good (along t 0 1 (segmentsTo t k))
           ∙ along-to
 
   -- a node deeper than 16 has a full path that is not of a target's form
-  pub path-deep : 16 < length (segmentsTo t k) → instancesOf (fullPath t k) t d ≡ unresolved 12 0
+  pub path-deep : 16 < length (segmentsTo t k) → instancesOf (fullPath t k) t d ≡ unresolved 12 (reachOf form.Target (fullPath t k))
   path-deep many = go (segmentsTo t k) refl
     where
-      go : (l : List (List ℕ)) → segmentsTo t k ≡ l → instancesOf (fullPath t k) t d ≡ unresolved 12 0
+      go : (l : List (List ℕ)) → segmentsTo t k ≡ l → instancesOf (fullPath t k) t d ≡ unresolved 12 (reachOf form.Target (fullPath t k))
       go [] e = absurd (omega (arith, ap length e))
       go (s ∷ ss) e =
           found-ways s ss (either (eqb k 0) (λ z. let w = no-ways t k (eqb-true k 0 z) in omega arith) (λ z. let n = eqb-false k 0 z in omega arith)) e
-          ∙ ap (λ (b : Bool). orForm (cond b (some (path true (segmentsTo t k))) none) t d) (lt-leb (length (segmentsTo t k)) 16 many)
+          ∙ ap (λ (b : Bool). orForm (fullPath t k) (cond b (some (path true (segmentsTo t k))) none) t d) (lt-leb (length (segmentsTo t k)) 16 many)
 
   -- the same in the answer and in the list
   pub path-resolves : (room : List ℕ) → length (segmentsTo t k) ≤ 16 → 1 ≤ length room

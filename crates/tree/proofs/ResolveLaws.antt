@@ -218,11 +218,11 @@ from-inside t d session ms e = absurd (let w = in-tree t d session′ ms (checkT
 from-inside t d (path true ss) ms e = let w = in-tree t d (along t 0 1 ss) ms (checkTree t) e in along-inside t (w .0) ss 0 1 ms (omega arith) (w .2)
 from-inside t d (path false ss) ms e = let w = in-tree t d (along t d 0 ss) ms (checkTree t) e in along-inside t (w .0) ss d 0 ms (w .1) (w .2)
 
-form-inside : (t : List ℕ) (d : ℕ) (o : Option Target) (ms : List ℕ) → orForm o t d ≡ nodes ms → allOf (inside t) ms ≡ true
-form-inside t d none ms e = absurd (let z : _≡_ {A = ℕ} 0 1 = cc in omega arith)
-form-inside t d (some g) ms e = from-inside t d g ms e
+form-inside : (t : List ℕ) (d : ℕ) (text : List ℕ) (o : Option Target) (ms : List ℕ) → orForm text o t d ≡ nodes ms → allOf (inside t) ms ≡ true
+form-inside t d text none ms e = absurd (let z : _≡_ {A = ℕ} 0 1 = cc in omega arith)
+form-inside t d text (some g) ms e = from-inside t d g ms e
 
 pub found-inside : (text t : List ℕ) (d : ℕ) (ms : List ℕ) → instancesOf text t d ≡ nodes ms → allOf (inside t) ms ≡ true
 unfolding instancesOf
 found-inside [] t d ms e = let w = in-tree t d (nodes (d ∷ [])) ms (checkTree t) e in one-inside t (w .0) d ms (w .1) (w .2)
-found-inside (b ∷ s) t d ms e = form-inside t d (targetOf (b ∷ s)) ms e
+found-inside (b ∷ s) t d ms e = form-inside t d (b ∷ s) (targetOf (b ∷ s)) ms e

@@ -8,6 +8,8 @@ use lib.Dec.{ltb, leb, eqb}
 use Rattle.text.specs.Bytes.{sameBytes}
 use Rattle.text.specs.Room.{filled}
 use Rattle.forms.specs.Targets.{Segment, here, above, child, children, segmentOf, Target, session, path, targetOf}
+use Rattle.reach.specs.declared.Form.the-variants as form
+use Rattle.reach.specs.Reach.{reachOf}
 use Rattle.tree.specs.declared.Checked.{Checked}
 use Rattle.tree.specs.declared.Checked.the-variants.{Good, Bad}
 use Rattle.tree.specs.declared.Resolved.{Resolved}
@@ -85,15 +87,15 @@ from t d session = session′
 from t d (path true ss) = along t 0 1 ss
 from t d (path false ss) = along t d 0 ss
 
--- 12 first: its term is the whole text
-abbrev pub orForm : Option Target → List ℕ → ℕ → Instances
-orForm none t d = unresolved 12 0
-orForm (some g) t d = inTree (checkTree t) t d (from t d g)
+-- 12 first: its term is the whole text, and its place the end of the longest beginning of it that is also a beginning of some target (request c; reach/proofs/Longest)
+abbrev pub orForm : List ℕ → Option Target → List ℕ → ℕ → Instances
+orForm text none t d = unresolved 12 (reachOf form.Target text)
+orForm text (some g) t d = inTree (checkTree t) t d (from t d g)
 
 -- Empty text means the default target.
 unfoldable pub instancesOf : List ℕ → List ℕ → ℕ → Instances
 instancesOf [] t d = inTree (checkTree t) t d (nodes (d ∷ []))
-instancesOf (b ∷ s) t d = orForm (targetOf (b ∷ s)) t d
+instancesOf (b ∷ s) t d = orForm (b ∷ s) (targetOf (b ∷ s)) t d
 
 -- ---- the answer, and the lent list: node numbers at its start, its other places unchanged; 19 last
 

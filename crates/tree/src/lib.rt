@@ -596,7 +596,7 @@ pub fn resolve(text: &[u8], t: &[u8], default: usize, list: &mut [u16]) -> Resol
     match forms::target_of(text) {
         forms::Where::No => Resolved::Refused {
             number: 12,
-            place: 0,
+            place: reach::reach(text, reach::Form::Target),
         },
         forms::Where::Session => give_session(t, default),
         forms::Where::Path { rooted, segments } => {

@@ -33,6 +33,9 @@ use Rattle.words.proofs.body_len.Reads as body-len-reads
 use Rattle.words.proofs.record_len as record-len-fn
 use Rattle.words.proofs.record_len.Kinds as record-len-kinds
 use Rattle.words.proofs.record_len.Reads as record-len-reads
+use Rattle.words.proofs.lower as lower-fn
+use Rattle.words.proofs.lower.Kinds as lower-kinds
+use Rattle.words.proofs.lower.Reads as lower-reads
 
 pub verb-only :
     (κs : Lifetimes.Lfts 1) (a : World.ArgsD verb-fn.signature κs)
@@ -105,3 +108,11 @@ pub record-len-only :
     → record-len-reads.Post κs a r s → record-len-reads.Post κs a r′ s′
     → r ≡ r′
 record-len-only κs a r r′ s s′ p q = p ∙ sym q
+
+pub lower-only :
+    (κs : Lifetimes.Lfts 0) (a : World.ArgsD lower-fn.signature κs)
+    (r r′ : World.ResD lower-fn.signature κs)
+    (s s′ : Clauses.AtExit (Kinds.endedOf 0 lower-kinds.ps lower-kinds.r) κs)
+    → lower-reads.Post κs a r s → lower-reads.Post κs a r′ s′
+    → r ≡ r′
+lower-only κs a r r′ s s′ p q = p ∙ sym q

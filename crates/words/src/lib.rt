@@ -138,7 +138,7 @@ pub fn verb(t: &[u8]) -> Known
 }
 
 // A letter A to Z in lower case; every other byte is itself.
-fn lower(b: u8) -> u8
+pub fn lower(b: u8) -> u8
     ensures { λ r. ⌜ r ≡ lower b ⌝ }
 {
     if b < b'A' {

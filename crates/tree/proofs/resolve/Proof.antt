@@ -19,6 +19,9 @@ target-of-requires c κs = search needs
 enum-told : tie.Need-enum-told
 enum-told c = search needs
 
+reach-requires : tie.Need-reach-requires
+reach-requires c κs = search needs
+
 enum-told-2 : tie.Need-enum-told-2
 enum-told-2 c = search needs
 
@@ -70,6 +73,7 @@ resolve-spec =
     returns
     target-of-requires
     enum-told
+    reach-requires
     enum-told-2
     give-session-requires
     enum-known-rooted

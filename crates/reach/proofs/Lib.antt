@@ -1,0 +1,12 @@
+pub mod MachineLaws
+pub mod StepLaws
+pub mod Far
+pub mod TallyLaws
+pub mod RoadLaws
+pub mod Accepts
+pub mod ValueReach
+pub mod NameReach
+pub mod StageLaws
+pub mod Longest
+pub mod Unsplit
+pub mod Only
