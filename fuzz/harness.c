@@ -188,6 +188,85 @@ static void on_reading(const uint8_t *line, size_t n, const uint8_t *records, si
     check(targets == (target.length > 0));
 }
 
+/* ---- places */
+
+/* The bytes of the sign at a place of a term: two for a backtick with the byte that it escapes. A quote that is not escaped opens or closes. */
+static size_t sign(const uint8_t *term, size_t n, size_t at, int *quoted)
+{
+    int escapes = term[at] == '`' && at + 1 < n && strchr(*quoted ? "`\"" : " `\",=-/\\.()*", term[at + 1]) != 0;
+    *quoted ^= term[at] == '"';
+    return escapes ? 2 : 1;
+}
+
+/* Whether a term, cut after so many bytes, has a bare `=`. */
+static int has_equals(const uint8_t *term, size_t n)
+{
+    size_t at = 0;
+    int quoted = 0;
+    while (at < n && (term[at] != '=' || quoted))
+        at += sign(term, n, at, &quoted);
+    return at < n;
+}
+
+/* Whether no sign of a term stands on both sides of a place. */
+static int parts(const uint8_t *term, size_t n, size_t place)
+{
+    size_t at = 0;
+    int quoted = 0;
+    while (at < place)
+        at += sign(term, n, at, &quoted);
+    return at == place;
+}
+
+/* What can be missing at the end of a good term that is cut: whichever form it has, one of these is. */
+static const char *const ENDINGS[] = {"", "1", "a", "l", "ll", ".", "/", "\"", ")", "a)", "\")", "a\"", "a\")", "=a"};
+enum { ENDING_BYTES = 3, MOST_ENDINGS = sizeof ENDINGS / sizeof *ENDINGS };
+
+/* Some bytes with the ending of a number after them: where they now end. */
+static size_t end_with(uint8_t *to, const uint8_t *bytes, size_t n, size_t number)
+{
+    size_t length = strlen(ENDINGS[number]);
+    if (n > 0)
+        memcpy(to, bytes, n);
+    memcpy(to + n, ENDINGS[number], length);
+    return n + length;
+}
+
+/* A line refused as 10, 12 or 13: the place lies in a term after the verb or at its end, for 10 in one behind an option, and that term does not start with
+ * `-`. Up to the place it is the beginning of a good line; what follows the byte there has no part in it; only a property may be read as a target where it
+ * is cut. */
+static void on_place(const uint8_t *line, size_t n, clp_answer refusal)
+{
+    static uint8_t good[CLP_LINE_BYTES + ENDING_BYTES];
+    size_t place = (size_t)refusal.value, start, end = 0, before = 0, terms = 0, i = 0;
+    clp_answer cut;
+    for (;; terms++) {
+        clp_term t = clp_next_term(line, n, end);
+        check(t.number == 0 && t.value != CLP_NONE && t.value <= place);
+        start = (size_t)t.value;
+        end = start + (size_t)t.length;
+        if (place <= end)
+            break;
+        before = start;
+    }
+    check(terms > 0 && line[start] != '-' && parts(line + start, end - start, place - start));
+    check(refusal.number != CLP_REFUSED_ARGUMENT || line[before] == '-');
+    /* in a room of no bytes a good line is 19 */
+    while (place + ENDING_BYTES <= CLP_LINE_BYTES && clp_read(good, end_with(good, line, place, i), 0, 0).number != CLP_REFUSED_ROOM)
+        check(++i < MOST_ENDINGS);
+    if (place < end) {
+        int is_property = refusal.number == CLP_REFUSED_PROPERTY && !has_equals(line + start, place + 1 - start);
+        cut = clp_read(line, place + 1, 0, 0);
+        check(same(cut, refusal) || cut.number == CLP_REFUSED_GRAVE || cut.number == CLP_REFUSED_QUOTE ||
+              (is_property && (cut.number == CLP_REFUSED_TARGET || cut.number == CLP_REFUSED_ROOM)));
+    }
+}
+
+static int is_form(clp_answer a)
+{
+    return a.number == CLP_REFUSED_ARGUMENT || a.number == CLP_REFUSED_TARGET || a.number == CLP_REFUSED_PROPERTY;
+}
+
 /* ---- a line */
 
 static void on_line(const uint8_t *bytes, size_t n, size_t room_len, size_t place)
@@ -200,6 +279,8 @@ static void on_line(const uint8_t *bytes, size_t n, size_t room_len, size_t plac
     memcpy(records, written(&room, full), sizeof records);
     check(full.number <= CLP_REFUSED_PROPERTIES || (full.number == CLP_REFUSED_NOT_FOR_VERB && full.value < n && line[full.value] == '-'));
     check(full.value <= (full.number == 0 ? CLP_READING_BYTES : n));
+    if (is_form(full))
+        on_place(line, n, full);
     a = clp_read(line, n, lend_room(&room, room_len, 4), room_len);
     written(&room, a);
     check(full.number == 0 && full.value > room_len ? is(a, CLP_REFUSED_ROOM, 0) : same(a, full));
@@ -284,6 +365,8 @@ static void on_capture(const uint8_t *capture, size_t n, size_t cut)
             on_reading(line, (size_t)x.value, records, (size_t)a.value);
         } else
             check(y.value == CLP_REFUSAL_BYTES && records[0] == CLP_KIND_REFUSAL && records[1] == a.number && CLP_FIELD(records + 2) == a.value);
+        if (is_form(a))
+            on_place(line, (size_t)x.value, a);
         for (size_t i = 0; i < x.value; i++)
             check(capture[placed.places[i]] == line[i] && placed.places[i] < placed.places[i + 1]);
     }
@@ -338,6 +421,17 @@ static void on_call(uint64_t state, size_t buffer_len, const uint8_t *bytes, siz
 
 /* ---- a tree, and a text in it */
 
+/* A text refused as 12 at a place: up to it, it is the beginning of a target, and with the byte there it is none, whatever follows. */
+static void on_text(const uint8_t *target, size_t m, size_t place)
+{
+    static uint8_t good[MOST + ENDING_BYTES];
+    size_t i = 0;
+    check(m > 0 && place <= m);
+    while (clp_resolve(good, end_with(good, target, place, i), 0, 0, 0, 0, 0).number == CLP_REFUSED_TARGET)
+        check(++i < MOST_ENDINGS);
+    check(place == m || is(clp_resolve(target, place + 1, 0, 0, 0, 0, 0), CLP_REFUSED_TARGET, place));
+}
+
 static void on_tree(const uint8_t *bytes, size_t n, const uint8_t *path, size_t m, size_t node, size_t room_len)
 {
     static lent list;
@@ -352,7 +446,10 @@ static void on_tree(const uint8_t *bytes, size_t n, const uint8_t *path, size_t 
     all = clp_resolve(target, m, tree, n, node, (uint16_t *)(void *)lend_room(&list, 2 * CLP_TREE_NODES, 16), CLP_TREE_NODES);
     check(all.number == 0 || all.number == 12 || (all.number >= 15 && all.number <= 18));
     check((all.number == CLP_REFUSED_TREE) <= (good.number != 0) && (all.number == 0) <= (good.number == 0));
-    check((all.number == 17 || all.number == 18 ? all.value < m : all.number == 0 || all.value == (all.number == 15 ? good.value : 0)));
+    if (all.number == CLP_REFUSED_TARGET)
+        on_text(target, m, (size_t)all.value);
+    else
+        check((all.number == 17 || all.number == 18 ? all.value < m : all.number == 0 || all.value == (all.number == 15 ? good.value : 0)));
     out = wrote(&list, all.number == 0 && all.value != CLP_SESSION ? 2 * (size_t)all.value : 0);
     for (i = 0; all.number == 0 && all.value != CLP_SESSION && i < all.value; i++) {
         uint16_t found;
@@ -373,7 +470,7 @@ static void on_tree(const uint8_t *bytes, size_t n, const uint8_t *path, size_t 
     if (p.number == 0) {
         uint16_t one = 0;
         a = clp_resolve(full, (size_t)p.value, tree, n, 0, &one, 1);
-        check(is(a, CLP_REFUSED_TARGET, 0) || (is(a, 0, 1) && one == node));
+        check((a.number == CLP_REFUSED_TARGET && a.value < p.value && full[a.value] == '/') || (is(a, 0, 1) && one == node));
     }
 }
 

@@ -1,7 +1,8 @@
 //! What is worked on: console text, commands, and a tree of 16 levels.
 
-use clp_gen::{excluded, line, tree, Rng};
-use clp_reader::{reading::read, refusal::NOT_FOR_VERB};
+use clp_gen::{almost, excluded, line, tree, Rng};
+use clp_reader::reading::read;
+use clp_reader::refusal::{Refusal, ARGUMENT_MALFORMED, NOT_FOR_VERB, PROPERTY_MALFORMED, TARGET_MALFORMED};
 
 /// Lines of at least so many bytes together.
 fn lines(size: usize, mut next: impl FnMut() -> Vec<u8>) -> Vec<Vec<u8>> {
@@ -36,10 +37,27 @@ fn accepted(rng: &mut Rng, size: usize, make: fn(&mut Rng) -> Vec<u8>) -> Vec<Ve
 
 /// Commands with an option put in that the verb can't have, which are refused as 20.
 pub fn excluded(rng: &mut Rng, size: usize) -> Vec<Vec<u8>> {
+    refused(rng, size, |rng| excluded::excluded(rng).line, |_, refusal| refusal.number == NOT_FOR_VERB)
+}
+
+/// Lines that are refused as 10, 12 or 13 in a long last term, in the line's last quarter.
+pub fn near_misses(rng: &mut Rng, size: usize) -> Vec<Vec<u8>> {
+    refused(rng, size, almost::late_line, |line, refusal| {
+        let is_form = [ARGUMENT_MALFORMED, TARGET_MALFORMED, PROPERTY_MALFORMED].contains(&refusal.number);
+        is_form && 4 * usize::from(refusal.place) > 3 * line.len()
+    })
+}
+
+fn refused(
+    rng: &mut Rng,
+    size: usize,
+    make: fn(&mut Rng) -> Vec<u8>,
+    is_wanted: fn(&[u8], Refusal) -> bool,
+) -> Vec<Vec<u8>> {
     let mut room = [0; 400];
     lines(size, || loop {
-        let line = excluded::excluded(rng).line;
-        if read(&line, &mut room).is_err_and(|refusal| refusal.number == NOT_FOR_VERB) {
+        let line = make(rng);
+        if read(&line, &mut room).is_err_and(|refusal| is_wanted(&line, refusal)) {
             return line;
         }
     })

@@ -13,7 +13,7 @@ use timing::{seconds_of_both, Row};
 const MEGA: usize = 1 << 20;
 
 fn main() {
-    let (mut rng, mut loud, mut barred) = (Rng::new(1), Rng::new(2), Rng::new(3));
+    let (mut rng, mut loud, mut barred, mut near) = (Rng::new(1), Rng::new(2), Rng::new(3), Rng::new(4));
     println!("best of several runs, proved and Rust in turns; the buffers are warm and not cleared between runs");
     Row::heading();
     for size in [1 << 10, 1 << 16, MEGA, 16 * MEGA, 100 * MEGA] {
@@ -25,6 +25,7 @@ fn main() {
         Row::new("read commands", size, "B", work::reads(&lines)).show();
         Row::new("read shouted", size, "B", work::reads(&input::shouted(&mut loud, size))).show();
         Row::new("read excluded", size, "B", work::reads(&input::excluded(&mut barred, size))).show();
+        Row::new("read near misses", size, "B", work::reads(&input::near_misses(&mut near, size))).show();
         let noise = input::noise(&mut rng, size);
         Row::new("read console text", size, "B", work::reads(&noise)).show();
         Row::new("canonical", size, "B", work::writes(&lines)).show();

@@ -1,4 +1,5 @@
-/* What include/clp.h says and a program can try: the worked bytes, the constants, the sizes, who gives 19, bad records, and null for an empty slice. */
+/* What include/clp.h says and a program can try: the worked bytes, the places of refusals, the constants, the sizes, who gives 19, bad records, and null for
+ * an empty slice. */
 #include <string.h>
 #include "check.h"
 #include "clp.h"
@@ -73,7 +74,7 @@ static void either_case(void)
     CHECK(is(clp_canonical(TEXT("Show -l aLL -D ALL"), lend(), sizeof room), 0, sizeof writing - 1) && memcmp(room, writing, sizeof writing - 1) == 0);
     CHECK(is(clp_canonical(TEXT("HELP Show"), lend(), sizeof room), 0, 9) && memcmp(room, "help Show", 9) == 0);
     CHECK(is(clp_canonical(TEXT("SET A=B"), lend(), sizeof room), 0, 7) && memcmp(room, "set A=B", 7) == 0);
-    CHECK(is(clp_read(TEXT("show session"), lend(), sizeof room), CLP_REFUSED_TARGET, 5) && unchanged());
+    CHECK(is(clp_read(TEXT("show session"), lend(), sizeof room), CLP_REFUSED_TARGET, 12) && unchanged());
     CHECK(is(clp_resolve(TEXT("CPU*"), TREE, sizeof TREE, 1, list, 2), CLP_REFUSED_CHILD, 0) && list[0] == 7);
     CHECK(is(clp_resolve(TEXT("CPU4"), TREE, sizeof TREE, 1, list, 2), CLP_REFUSED_CHILD, 0) && list[0] == 7);
 }
@@ -97,6 +98,54 @@ static void not_for_verb(void)
     CHECK(clp_target(TEXT("cd -f /")).position == 0 && clp_target(TEXT("cd -f /")).length == 0);
     CHECK(is_joined(clp_list(0, buffer, sizeof buffer, TEXT("cd -f\n"), lend(), sizeof room), 0, CLP_REFUSAL_BYTES, 6, 0));
     CHECK(memcmp(room, refusal, sizeof refusal) == 0);
+}
+
+/* Whether a line is refused as this number at this place, by reading and by writing alike, with nothing changed. */
+static int refused(const uint8_t *line, size_t n, uint64_t number, uint64_t place)
+{
+    return is(clp_read(line, n, lend(), sizeof room), number, place) && unchanged() && is(clp_canonical(line, n, lend(), sizeof room), number, place) &&
+           unchanged() && is(clp_read(line, n, lend(), 0), number, place);
+}
+
+/* 10, 12 and 13 point at the first byte that can't stay, which may be the term's end: what stands before it is the beginning of a good term. */
+static void places(void)
+{
+    static uint8_t line[CLP_LINE_BYTES], text[2000];
+    static const uint8_t refusal[] = {0x05, 0x0D, 0x00, 0x07};
+    uint8_t buffer[CLP_LINE_BYTES];
+    uint16_t one = 7;
+    size_t i, n;
+    CHECK(refused(TEXT("show -level 02"), CLP_REFUSED_ARGUMENT, 13));
+    CHECK(refused(TEXT("SHOW -L ALx"), CLP_REFUSED_ARGUMENT, 10));
+    CHECK(refused(TEXT("cd -k 4294967296"), CLP_REFUSED_ARGUMENT, 15));
+    CHECK(refused(TEXT("load -source `\"a\"\""), CLP_REFUSED_ARGUMENT, 16));
+    CHECK(refused(TEXT("show -d a=(b,"), CLP_REFUSED_ARGUMENT, 13));
+    CHECK(refused(TEXT("cd /system1/"), CLP_REFUSED_TARGET, 12));
+    CHECK(refused(TEXT("cd a65536"), CLP_REFUSED_TARGET, 8));
+    CHECK(refused(TEXT("cd \"\""), CLP_REFUSED_TARGET, 3));
+    CHECK(refused(TEXT("set a=b=c"), CLP_REFUSED_PROPERTY, 7));
+    CHECK(refused(TEXT("set / a=\"b\"c d="), CLP_REFUSED_PROPERTY, 11));
+    CHECK(refused(TEXT("help a=b"), CLP_REFUSED_PROPERTY, 6));
+    CHECK(refused(TEXT("show -l -02"), CLP_REFUSED_NO_ARGUMENT, 8));
+    CHECK(is_joined(clp_list(0, buffer, sizeof buffer, TEXT("set a=b=c\n"), lend(), sizeof room), 0, CLP_REFUSAL_BYTES, 10, 0));
+    CHECK(memcmp(room, refusal, sizeof refusal) == 0);
+
+    /* the place may be the line's length, also where no more would fit */
+    memset(line, ' ', sizeof line);
+    add(line, 0, "set");
+    add(line, CLP_LINE_BYTES - 3, "a=(");
+    CHECK(refused(line, sizeof line, CLP_REFUSED_PROPERTY, CLP_LINE_BYTES));
+    /* a 17th segment: the separator before it */
+    for (n = add(line, 0, "cd "), i = 0; i < 17; i++)
+        n = add(line, n, "/a1");
+    CHECK(refused(line, n, CLP_REFUSED_TARGET, 51));
+
+    /* in a text that is resolved, before 15 and 16 */
+    memset(text, 'x', sizeof text);
+    CHECK(is(clp_resolve(TEXT("system1/"), TREE, sizeof TREE, 0, &one, 1), CLP_REFUSED_TARGET, 8) && one == 7);
+    CHECK(is(clp_resolve(TEXT("cpu 4"), TREE, sizeof TREE - 1, 9, &one, 1), CLP_REFUSED_TARGET, 3) && one == 7);
+    CHECK(is(clp_resolve(text, sizeof text, TREE, sizeof TREE, 0, &one, 1), CLP_REFUSED_TARGET, 16) && one == 7);
+    CHECK(is(clp_resolve(TEXT("\377"), TREE, sizeof TREE, 0, &one, 1), CLP_REFUSED_TARGET, 0) && one == 7);
 }
 
 static void worked_tree(void)
@@ -301,6 +350,7 @@ int main(void)
     worked_records();
     either_case();
     not_for_verb();
+    places();
     worked_tree();
     numbers();
     states();

@@ -60,22 +60,27 @@ pub fn same_writing(
     answer
 }
 
+/// A generated line in all ways.
 pub fn compare(rng: &mut Rng, counts: &mut Counts) {
     let line = line::line(rng);
+    compare_line(rng, &line, counts);
+}
+
+pub fn compare_line(rng: &mut Rng, line: &[u8], counts: &mut Counts) {
     let mut room = [0; 400];
-    let needed = read(&line, &mut room).map_or(0, |reading| reading.length);
+    let needed = read(line, &mut room).map_or(0, |reading| reading.length);
     let size = size_near(rng, needed, 420);
-    let ours = |room: &mut [u8]| face::read(&line, room);
-    let theirs = |room: &mut [u8]| read(&line, room).map(|reading| reading.length);
-    let answer = same_writing(rng, size, ours, theirs, &line);
+    let ours = |room: &mut [u8]| face::read(line, room);
+    let theirs = |room: &mut [u8]| read(line, room).map(|reading| reading.length);
+    let answer = same_writing(rng, size, ours, theirs, line);
     match answer.number {
         0 => counts.accepted += 1,
         number => counts.refused[number as usize] += 1,
     }
-    compare_target(&line);
-    compare_terms(rng, &line);
-    counts.longest = counts.longest.max(compare_writing(rng, &line));
-    compare_meaning(rng, &line);
+    compare_target(line);
+    compare_terms(rng, line);
+    counts.longest = counts.longest.max(compare_writing(rng, line));
+    compare_meaning(rng, line);
     if needed > 0 {
         compare_text(rng, &room[..needed]);
         compare_damaged(rng, &room[..needed]);

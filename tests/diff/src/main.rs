@@ -3,6 +3,7 @@
 //!
 //! clp_diff [LINES] [SEED]: a million lines and seed 1 where none are given.
 
+mod beginnings;
 mod captures;
 mod lent;
 mod lines;
@@ -23,6 +24,7 @@ fn main() {
     for _ in 0..lines {
         lines::compare(&mut rng, &mut counts);
     }
+    let (terms, texts) = beginnings::compare(&mut rng, &mut counts);
     for _ in 0..lines / 100 {
         captures::compare(&mut rng);
     }
@@ -30,6 +32,7 @@ fn main() {
         trees::compare(&mut rng);
     }
     counts.show();
+    println!("diff: {terms} lines and {texts} texts of beginnings with a byte after them");
     println!(
         "diff: {} lines, {} captures, {} trees: no difference ({:.1} s)",
         lines,

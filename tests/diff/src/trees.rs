@@ -32,7 +32,7 @@ fn compare_path(rng: &mut Rng, tree: &[u8]) {
     same_writing(rng, size, ours, theirs, b"full path");
 }
 
-fn compare_resolving(rng: &mut Rng, text: &[u8], tree: &[u8], default: usize) {
+pub fn compare_resolving(rng: &mut Rng, text: &[u8], tree: &[u8], default: usize) {
     let mut list = vec![0; 512];
     let needed = match resolve(text, tree, default, &mut list) {
         Ok(Resolved::Nodes(count)) => count,

@@ -1,8 +1,8 @@
-//! Document 02's cases through the proved library: each line's records and its canonical writing, or its refusal.
+//! Document 02's cases through the proved library: each line's records and its canonical writing, or its refusal; and what each text to resolve addresses.
 
 use clp_face as face;
 use clp_reader::canonical::write_canonical;
-use clp_vectors::{Answer, Refused, REQUEST_A, REQUEST_B};
+use clp_vectors::{Addressed, Answer, Case, Refused, REQUEST_A, REQUEST_B, REQUEST_C, ROOM_C, TREE_C};
 
 /// What a call writes at the start of lent room, in the terms of the cases; the rest of the room stays as it was.
 fn answer(size: usize, call: impl Fn(&mut [u8]) -> face::Answer) -> Answer {
@@ -13,8 +13,12 @@ fn answer(size: usize, call: impl Fn(&mut [u8]) -> face::Answer) -> Answer {
     room.truncate(written);
     match number {
         0 => Ok(room),
-        _ => Err(Refused { number: number.try_into().unwrap(), place: value.try_into().unwrap() }),
+        _ => Err(refused(number, value)),
     }
+}
+
+fn refused(number: u64, place: u64) -> Refused {
+    Refused { number: number.try_into().unwrap(), place: place.try_into().unwrap() }
 }
 
 fn reading(line: &[u8]) -> Answer {
@@ -35,18 +39,45 @@ fn lines_of_request_a() {
     }
 }
 
-/// The cases have no writing: it is the independent reader's, and of a refused line that refusal.
+/// The case has no writing: it is the independent reader's, and of a refused line that refusal.
+fn check_line(case: &Case, line: &[u8], expected: Answer) {
+    assert_eq!(reading(line), expected, "{}: {}", case.at, line.escape_ascii());
+    let theirs = match expected {
+        Ok(_) => Ok(written(line)),
+        refused => refused,
+    };
+    assert_eq!(writing(line), theirs, "{}: {}", case.at, line.escape_ascii());
+}
+
 #[test]
 fn lines_of_request_b() {
     for case in &REQUEST_B.cases(2) {
-        let line = case.bytes(0);
-        let expected = case.reading(1);
-        assert_eq!(reading(&line), expected, "{}: {}", case.at, line.escape_ascii());
-        let theirs = match expected {
-            Ok(_) => Ok(written(&line)),
-            refused => refused,
-        };
-        assert_eq!(writing(&line), theirs, "{}: {}", case.at, line.escape_ascii());
+        check_line(case, &case.bytes(0), case.reading(1));
+    }
+}
+
+#[test]
+fn lines_and_texts_of_request_c() {
+    for case in &REQUEST_C.cases(3) {
+        let input = case.bytes(1);
+        match case.word(0, &["line", "text"]) {
+            "line" => check_line(case, &input, case.reading(2)),
+            _ => assert_eq!(addressed(&input), case.addressed(2), "{}: {}", case.at, input.escape_ascii()),
+        }
+    }
+}
+
+/// What a text addresses in the tree of the cases, in their terms.
+fn addressed(text: &[u8]) -> Addressed {
+    let mut list = vec![0xaaaa; ROOM_C];
+    let face::Answer { number, value } = face::resolve(text, TREE_C, 0, &mut list);
+    let count = if number == 0 && value != face::NONE { value as usize } else { 0 };
+    assert!(list[count..].iter().all(|&number| number == 0xaaaa));
+    list.truncate(count);
+    match (number, value) {
+        (0, face::NONE) => Ok(None),
+        (0, _) => Ok(Some(list)),
+        _ => Err(refused(number, value)),
     }
 }
 

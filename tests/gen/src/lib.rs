@@ -5,9 +5,12 @@
 
 #![forbid(unsafe_code)]
 
+pub mod almost;
+pub mod beginnings;
 pub mod capture;
 pub mod damage;
 pub mod excluded;
+pub mod form;
 pub mod line;
 pub mod options;
 pub mod rng;

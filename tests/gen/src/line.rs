@@ -1,12 +1,14 @@
 //! Lines: valid by the grammar with verbs, option names and `all` in any case, damaged, noise, at
-//! the edges of every limit, near misses of a word in another case, and options that the verb can't
-//! have.
+//! the edges of every limit, near misses of a word in another case, options that the verb can't
+//! have, and terms that are almost of their form.
 
 use std::ops::Range;
 
+use crate::almost::{almost, almost_line};
 use crate::damage::{damage, LOADED_BYTES};
 use crate::excluded::excluded_line;
-use crate::options::{options_of, Argument, OptionRow, VERBS};
+use crate::form::Form;
+use crate::options::{options_of, OptionRow, VERBS};
 use crate::rng::Rng;
 use crate::shout::{shout, NEXT_TO_LETTERS};
 use crate::tree::{segment_text, tag, TAGS};
@@ -93,16 +95,18 @@ pub(crate) struct Made {
 }
 
 /// One line: about half are valid by the grammar, the others damaged, noise, at an edge, next to a
-/// line with a shouted name, or with an option that the verb can't have.
+/// line with a shouted name, with an option that the verb can't have, or with a term that is almost
+/// of its form.
 pub fn line(rng: &mut Rng) -> Vec<u8> {
     match rng.below(100) {
         0..=49 => shouted_line(rng),
-        50..=69 => {
+        50..=61 => {
             let mut line = shouted_line(rng);
             damage(rng, &mut line);
             line
         }
-        70..=79 => edge_line(rng),
+        62..=71 => almost_line(rng),
+        72..=79 => edge_line(rng),
         80..=84 => near_miss(rng),
         85..=88 => excluded_line(rng),
         89..=94 => noise_of_pieces(rng),
@@ -317,19 +321,20 @@ pub(crate) fn put_argument(
     names: &mut Places,
 ) {
     match option.argument {
-        Argument::None => {}
-        Argument::Location => put_term(rng, line, put_location),
-        Argument::Items => put_term(rng, line, put_items),
-        Argument::Keep => put_term(rng, line, put_number),
-        Argument::Level if rng.percent(50) => {
+        Some(Form::Location) => put_term(rng, line, put_location),
+        Some(Form::Items) => put_term(rng, line, put_items),
+        Some(Form::Keep) => put_term(rng, line, put_number),
+        Some(Form::Level) if rng.percent(50) => {
             line.push(b' ');
             put_word("all", line, names);
         }
-        Argument::Level => put_term(rng, line, put_number),
+        Some(Form::Level) => put_term(rng, line, put_number),
+        // No option takes a target, a property or a topic.
+        _ => {}
     }
 }
 
-fn put_number(rng: &mut Rng, line: &mut Vec<u8>) {
+pub(crate) fn put_number(rng: &mut Rng, line: &mut Vec<u8>) {
     if rng.percent(3) {
         line.extend_from_slice(rng.pick_text(&EDGE_NUMBERS));
         return;
@@ -339,7 +344,7 @@ fn put_number(rng: &mut Rng, line: &mut Vec<u8>) {
 }
 
 /// A source or destination: no unescaped quote, and no bare `-` at its start.
-fn put_location(rng: &mut Rng, line: &mut Vec<u8>) {
+pub(crate) fn put_location(rng: &mut Rng, line: &mut Vec<u8>) {
     const SCHEMES: [&str; 5] = ["ftp://host/a.bin", "/system1/log1", "file:", "`-x", "\\a"];
     line.extend_from_slice(rng.pick_text(&SCHEMES));
     for _ in 0..rng.mostly_small(20) {
@@ -361,7 +366,7 @@ fn put_escaped_outside(rng: &mut Rng, byte: u8, line: &mut Vec<u8>) {
     line.push(byte);
 }
 
-fn put_items(rng: &mut Rng, line: &mut Vec<u8>) {
+pub(crate) fn put_items(rng: &mut Rng, line: &mut Vec<u8>) {
     for index in 0..rng.between(1, 4) {
         if index > 0 {
             line.push(b',');
@@ -374,7 +379,7 @@ fn put_items(rng: &mut Rng, line: &mut Vec<u8>) {
     }
 }
 
-fn put_name(rng: &mut Rng, line: &mut Vec<u8>) {
+pub(crate) fn put_name(rng: &mut Rng, line: &mut Vec<u8>) {
     if rng.percent(80) {
         line.extend_from_slice(rng.pick_text(&NAMES));
         return;
@@ -388,13 +393,13 @@ fn put_name(rng: &mut Rng, line: &mut Vec<u8>) {
     put_word_bytes(rng, length, line);
 }
 
-fn put_word_bytes(rng: &mut Rng, length: usize, line: &mut Vec<u8>) {
+pub(crate) fn put_word_bytes(rng: &mut Rng, length: usize, line: &mut Vec<u8>) {
     for _ in 0..length {
         line.push(*rng.pick(b"abcxyzABCXYZ0189_"));
     }
 }
 
-fn put_property(rng: &mut Rng, line: &mut Vec<u8>) {
+pub(crate) fn put_property(rng: &mut Rng, line: &mut Vec<u8>) {
     if rng.percent(30) {
         put_name(rng, line);
     } else {
@@ -456,7 +461,7 @@ fn put_plain_item(rng: &mut Rng, line: &mut Vec<u8>) {
 }
 
 /// A quoted item: inside, GRAVE and `"` are escaped, and a GRAVE before others is itself.
-fn put_quoted_item(rng: &mut Rng, line: &mut Vec<u8>) {
+pub(crate) fn put_quoted_item(rng: &mut Rng, line: &mut Vec<u8>) {
     line.push(b'"');
     for _ in 0..rng.mostly_small(14) {
         match *rng.pick(b"aZ0_ ,=()-/\\.*:`\"~G") {
@@ -469,7 +474,7 @@ fn put_quoted_item(rng: &mut Rng, line: &mut Vec<u8>) {
 }
 
 /// A target: `SESSION`, the root, or a path with either separator.
-fn put_target(rng: &mut Rng, line: &mut Vec<u8>) {
+pub(crate) fn put_target(rng: &mut Rng, line: &mut Vec<u8>) {
     match rng.below(20) {
         0 => line.extend_from_slice(b"SESSION"),
         1 => line.push(separator(rng)),
@@ -477,7 +482,7 @@ fn put_target(rng: &mut Rng, line: &mut Vec<u8>) {
     }
 }
 
-fn separator(rng: &mut Rng) -> u8 {
+pub(crate) fn separator(rng: &mut Rng) -> u8 {
     if rng.percent(75) {
         b'/'
     } else {
@@ -502,7 +507,7 @@ fn put_path(rng: &mut Rng, line: &mut Vec<u8>) {
     }
 }
 
-fn put_segment(rng: &mut Rng, is_last: bool, line: &mut Vec<u8>) {
+pub(crate) fn put_segment(rng: &mut Rng, is_last: bool, line: &mut Vec<u8>) {
     match rng.below(12) {
         0 => line.push(b'.'),
         1 => line.extend_from_slice(b".."),
@@ -797,10 +802,11 @@ pub fn noise_of_bytes(rng: &mut Rng) -> Vec<u8> {
     line
 }
 
-/// Texts handed to a resolver as a target: paths by grammar, damaged, in another case, and noise.
+/// Texts handed to a resolver as a target: paths by grammar, damaged, almost of the form, in another
+/// case, and noise.
 pub fn loose_target(rng: &mut Rng) -> Vec<u8> {
     let mut text = Vec::new();
-    match rng.below(10) {
+    match rng.below(12) {
         0 => {}
         1 => put_piece(rng, &PIECES, &mut text),
         2 => text = noise_of_bytes(rng),
@@ -816,6 +822,7 @@ pub fn loose_target(rng: &mut Rng) -> Vec<u8> {
             text.extend_from_slice(b"SESSION");
             shout(rng, &mut text);
         }
+        6 | 7 => text = almost(rng, Form::Target),
         _ => put_target(rng, &mut text),
     }
     text

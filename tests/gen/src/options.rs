@@ -1,6 +1,7 @@
 //! The options: names and arguments as in Table 14 of DSP0214, and which verbs have each, as in its
 //! Table 15 (document 02, request b).
 
+use crate::form::Form;
 use Verbs::{All, AllBut, These};
 
 pub const VERBS: [&str; 13] = [
@@ -12,17 +13,9 @@ pub const VERBS: [&str; 13] = [
 pub struct OptionRow {
     pub long: &'static str,
     pub short: &'static str,
-    pub(crate) argument: Argument,
+    /// The form of its argument, none where it takes none.
+    pub argument: Option<Form>,
     verbs: Verbs,
-}
-
-#[derive(Clone, Copy)]
-pub(crate) enum Argument {
-    None,
-    Location,
-    Items,
-    Keep,
-    Level,
 }
 
 /// The verbs that have an option.
@@ -38,29 +31,29 @@ const FORCED: &[&str] = &[
 
 /// An option without a short name has its long one twice.
 const OPTIONS: [OptionRow; 12] = [
-    row("all", "a", Argument::None, These(&["show"])),
+    row("all", "a", None, These(&["show"])),
     row(
         "destination",
         "destination",
-        Argument::Location,
+        Some(Form::Location),
         These(&["dump"]),
     ),
-    row("display", "d", Argument::Items, These(&["show"])),
-    row("examine", "x", Argument::None, All),
-    row("force", "f", Argument::None, These(FORCED)),
-    row("help", "h", Argument::None, All),
-    row("keep", "k", Argument::Keep, All),
-    row("level", "l", Argument::Level, These(&["show"])),
-    row("output", "o", Argument::Items, All),
-    row("source", "source", Argument::Location, These(&["load"])),
-    row("version", "v", Argument::None, All),
-    row("wait", "w", Argument::None, AllBut("exit")),
+    row("display", "d", Some(Form::Items), These(&["show"])),
+    row("examine", "x", None, All),
+    row("force", "f", None, These(FORCED)),
+    row("help", "h", None, All),
+    row("keep", "k", Some(Form::Keep), All),
+    row("level", "l", Some(Form::Level), These(&["show"])),
+    row("output", "o", Some(Form::Items), All),
+    row("source", "source", Some(Form::Location), These(&["load"])),
+    row("version", "v", None, All),
+    row("wait", "w", None, AllBut("exit")),
 ];
 
 const fn row(
     long: &'static str,
     short: &'static str,
-    argument: Argument,
+    argument: Option<Form>,
     verbs: Verbs,
 ) -> OptionRow {
     OptionRow {
@@ -91,12 +84,14 @@ pub fn excluded_by(verb: &str) -> Vec<&'static OptionRow> {
     OPTIONS.iter().filter(|row| !row.is_for(verb)).collect()
 }
 
+/// The option that a term names, in either case.
+pub fn option_of(term: &[u8]) -> Option<&'static OptionRow> {
+    let name = term.strip_prefix(b"-")?;
+    let is = |word: &str| name.eq_ignore_ascii_case(word.as_bytes());
+    OPTIONS.iter().find(|row| is(row.long) || is(row.short))
+}
+
 /// Whether a term names an option, in either case, that this verb can't have.
 pub fn is_excluded(verb: &str, term: &[u8]) -> bool {
-    let Some(name) = term.strip_prefix(b"-") else {
-        return false;
-    };
-    let is = |word: &str| name.eq_ignore_ascii_case(word.as_bytes());
-    let rows = excluded_by(verb);
-    rows.iter().any(|row| is(row.long) || is(row.short))
+    option_of(term).is_some_and(|row| !row.is_for(verb))
 }

@@ -1,5 +1,7 @@
 //! The independent reader held against itself on generated inputs: what the demands promise.
 
+mod common;
+
 use std::ops::Range;
 
 use clp_gen::excluded::{excluded, excluded_line, Excluded};
@@ -15,6 +17,7 @@ use clp_reader::refusal::Refusal;
 use clp_reader::same::same_command;
 use clp_reader::terms::{check_line, next_term, stood_for, write_stood_for, TermReader};
 use clp_reader::tree::{check_tree, full_path, resolve, Resolved};
+use common::{refused_term, terms_of, verb_of};
 
 const LINES: usize = 200_000;
 const CANARY: u8 = 0xa5;
@@ -260,10 +263,10 @@ fn near_misses_of_shouted_names_come_up() {
         let line = line::line(&mut rng);
         match records_of(&line) {
             Err(refusal) => {
-                let Ok(Some(part)) = next_term(&line, refusal.place.into()) else {
+                let Some(refused) = refused_term(&line) else {
                     continue;
                 };
-                let term = part.of(&line);
+                let term = &line[refused.term];
                 let is_name = [6, 7, 10].contains(&refusal.number);
                 // A GRAVE comes up in other ways too.
                 let is_near = |byte: &u8| *byte != b'`' && NEXT_TO_LETTERS.contains(byte);
@@ -291,20 +294,6 @@ fn near_misses_of_shouted_names_come_up() {
     println!("SESSION in another case {sessions}, bytes next to letters in names {bytes}");
     println!("items with ALL {items}, topics SHOW {topics}");
     assert!(sessions > 500 && bytes > 1000 && items > 200 && topics > 50);
-}
-
-/// The verb of a line that has one, in lower case.
-fn verb_of(line: &[u8]) -> Option<&'static str> {
-    let part = next_term(line, 0).ok()??;
-    let is = |verb: &&str| part.of(line).eq_ignore_ascii_case(verb.as_bytes());
-    VERBS.into_iter().find(is)
-}
-
-/// The terms of a line that rows 1 to 5 don't refuse.
-fn terms_of(line: &[u8]) -> Vec<&[u8]> {
-    let mut reader = TermReader::new(line);
-    let terms = std::iter::from_fn(|| reader.next_term().ok().flatten());
-    terms.map(|part| part.of(line)).collect()
 }
 
 #[test]
@@ -407,10 +396,11 @@ fn excluded_options_come_up_in_each_position() {
             9 => met[6] += usize::from(is_excluded(verb, term)),
             20 => {
                 let before = terms_of(&line[..place]).len();
-                let after = terms_of(&line[place + term.len()..]);
+                let after = &line[place + term.len()..];
+                let mut later = terms_of(after).into_iter();
                 met[0] += usize::from(before == 1);
                 met[1] += usize::from(before > 1);
-                met[2] += usize::from(after.iter().any(|term| is_excluded(verb, term)));
+                met[2] += usize::from(later.any(|term| is_excluded(verb, &after[term])));
                 // By what the option would be with show, load or dump, which have it.
                 let of = |verb: &str| [verb.as_bytes(), b" ", &line[place..]].concat();
                 let owner = ["show", "load", "dump"].map(|owner| read(&of(owner), &mut [0; 399]));

@@ -93,6 +93,47 @@ pub fn end(state: State) -> Result<Ended, Refusal> {
     }
 }
 
+/// The lines of a capture that is handed over part by part.
+pub(crate) struct Capture {
+    state: State,
+    line: [u8; LINE_ROOM],
+}
+
+impl Default for Capture {
+    fn default() -> Capture {
+        Capture {
+            state: State::default(),
+            line: [0; LINE_ROOM],
+        }
+    }
+}
+
+impl Capture {
+    /// Shows each line that ends in `part`, or the first 1,024 bytes of a longer one with its refusal.
+    pub(crate) fn each_line(
+        &mut self,
+        part: &[u8],
+        mut show: impl FnMut(&[u8], Result<(), Refusal>),
+    ) {
+        let mut rest = part;
+        while !rest.is_empty() {
+            let step = join(self.state, &mut self.line, rest);
+            self.state = step.state;
+            rest = &rest[step.used..];
+            match step.joined {
+                Joined::More => break,
+                Joined::Line(length) => show(&self.line[..length], Ok(())),
+                Joined::Refused(refusal) => show(&self.line, Err(refusal)),
+            }
+        }
+    }
+
+    /// Whether the capture, were it to end here, would cut a line.
+    pub(crate) fn is_cut(&self) -> bool {
+        end(self.state) == Ok(Ended::Cut)
+    }
+}
+
 impl State {
     /// Whether some capture leads to this state.
     pub fn is_reachable(self) -> bool {

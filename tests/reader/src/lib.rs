@@ -1,4 +1,4 @@
-//! An independent reader of the SM CLP dialect of document 01, with requests a and b of document
+//! An independent reader of the SM CLP dialect of document 01, with requests a to c of document
 //! 02, written from those papers alone.
 //!
 //! One module follows one section of the paper. All functions are total: they take any input,
@@ -6,14 +6,19 @@
 
 #![forbid(unsafe_code)]
 
+pub mod beginning;
 pub mod canonical;
 pub mod clplist;
+pub mod explain;
+pub mod form;
 pub mod joiner;
 pub mod path;
+pub mod program;
 pub mod reading;
 pub mod records;
 pub mod refusal;
 pub mod same;
+pub mod search;
 pub mod terms;
 pub mod tree;
 

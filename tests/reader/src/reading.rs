@@ -1,7 +1,7 @@
 //! "The command": a line's reading as records, or its refusal.
 
-use crate::bytes::decimal;
-use crate::path::is_target;
+use crate::beginning::longest_beginning;
+use crate::form::{split_property, Form};
 use crate::records::{Gathered, Record};
 use crate::refusal::{
     Refusal, ARGUMENT_MALFORMED, ARGUMENT_MISSING, NOT_FOR_VERB, NO_SUCH_OPTION, NO_SUCH_VERB,
@@ -10,11 +10,7 @@ use crate::refusal::{
 };
 use crate::support::{options_of, Options};
 use crate::terms::{find_terms, Term, Terms};
-use crate::value::{is_item_row, value_length};
-use crate::vocabulary::{
-    is_level_all, name_length, option_number, takes_argument, verb_number, DISPLAY, HELP_VERB,
-    KEEP, LEVEL, OUTPUT,
-};
+use crate::vocabulary::{option_number, takes_argument, verb_number, HELP_VERB};
 use crate::Part;
 
 const MOST_PROPERTIES: usize = 32;
@@ -63,6 +59,12 @@ pub(crate) fn gather(line: &[u8], gathered: &mut Gathered) -> Result<Part, Refus
 
 fn refuse(number: u8, term: Term) -> Refusal {
     Refusal::new(number, term.start.into())
+}
+
+/// The refusal of a term that is not of its form: its place is the first byte that can't stay.
+fn refuse_form(number: u8, term: Term, form: Form, line: &[u8]) -> Refusal {
+    let can_stay = longest_beginning(form, term.raw(line));
+    Refusal::new(number, usize::from(term.start) + can_stay)
 }
 
 /// A term's first byte is never escaped or quoted, so a `-` there is bare.
@@ -118,17 +120,16 @@ fn read_argument(line: &[u8], option: u8, next: Option<&Term>) -> Result<Part, R
     if starts_with_dash(line, term) {
         return Err(refuse(ARGUMENT_MISSING, term));
     }
-    let raw = term.raw(line);
-    let is_of_form = match option {
-        KEEP => decimal(raw, u32::MAX).is_some(),
-        LEVEL => is_level_all(raw) || decimal(raw, u32::MAX).is_some(),
-        DISPLAY | OUTPUT => is_item_row(raw),
-        _ => !term.has_quote,
+    let form = Form::of_argument(option);
+    let is_of_form = match form {
+        // The scan of the line has seen it already.
+        Form::Location => !term.has_quote,
+        _ => form.accepts(term.raw(line)),
     };
     if is_of_form {
         Ok(term.part())
     } else {
-        Err(refuse(ARGUMENT_MALFORMED, term))
+        Err(refuse_form(ARGUMENT_MALFORMED, term, form, line))
     }
 }
 
@@ -141,8 +142,8 @@ fn read_target<'t>(
 ) -> Result<(Part, &'t [Term]), Refusal> {
     match terms.split_first() {
         Some((&term, after)) if verb != HELP_VERB && !term.has_bare_equals => {
-            if !is_target(term.raw(line)) {
-                return Err(refuse(TARGET_MALFORMED, term));
+            if !Form::Target.accepts(term.raw(line)) {
+                return Err(refuse_form(TARGET_MALFORMED, term, Form::Target, line));
             }
             let part = term.part();
             gathered.push(Record::Target { part });
@@ -159,6 +160,7 @@ fn read_properties(
     verb: u8,
     gathered: &mut Gathered,
 ) -> Result<(), Refusal> {
+    let form = Form::of_property(verb);
     for (index, &term) in terms.iter().enumerate() {
         if starts_with_dash(line, term) {
             return Err(refuse(OPTION_TOO_LATE, term));
@@ -166,37 +168,22 @@ fn read_properties(
         if index == MOST_PROPERTIES {
             return Err(refuse(TOO_MANY_PROPERTIES, term));
         }
-        let property = property_of(line, term).filter(|property| {
-            let is_mere_name = matches!(property, Record::Property { operator: 0, .. });
-            is_mere_name || verb != HELP_VERB
-        });
-        gathered.push(property.ok_or_else(|| refuse(PROPERTY_MALFORMED, term))?);
+        let property = property_of(line, term, form);
+        gathered.push(property.ok_or_else(|| refuse_form(PROPERTY_MALFORMED, term, form, line))?);
     }
     Ok(())
 }
 
-/// A name; or name `=` value; or name `==` value.
-fn property_of(line: &[u8], term: Term) -> Option<Record> {
-    let raw = term.raw(line);
-    let name_bytes = name_length(raw)?;
-    let after_name = &raw[name_bytes..];
-    let operator = match after_name {
-        [] => 0,
-        [b'=', b'=', ..] => 2,
-        [b'=', ..] => 1,
-        _ => return None,
-    };
+/// The record of a term that is a property, or with help a topic.
+fn property_of(line: &[u8], term: Term, form: Form) -> Option<Record> {
+    let (name_bytes, operator) = split_property(term.raw(line))?;
     let start = usize::from(term.start);
     let name = Part::between(start, start + name_bytes);
-    let value = if operator == 0 {
-        absent_after(term)
-    } else {
+    let value = match operator {
+        0 => absent_after(term),
+        _ if form == Form::Topic => return None,
         // The operator's number is also its length.
-        let text = &after_name[usize::from(operator)..];
-        if value_length(text)? != text.len() {
-            return None;
-        }
-        Part::between(usize::from(term.end) - text.len(), term.end.into())
+        _ => Part::between(start + name_bytes + usize::from(operator), term.end.into()),
     };
     Some(Record::Property {
         name,

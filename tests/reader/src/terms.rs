@@ -82,6 +82,12 @@ pub fn term_at(line: &[u8], place: usize) -> Option<std::ops::Range<usize>> {
     scan_term(line, place).map(|scan| scan.start..scan.end)
 }
 
+/// Whether `text` is one term without an unescaped `"`.
+pub(crate) fn is_unquoted_term(text: &[u8]) -> bool {
+    scan_term(text, 0)
+        .is_some_and(|scan| scan.part() == Part::between(0, text.len()) && !scan.has_quote)
+}
+
 /// Rows 1 to 5: the line's refusal with its place, if one of them holds.
 pub fn check_line(line: &[u8]) -> Result<(), Refusal> {
     scan_line(line, |_, _| ())

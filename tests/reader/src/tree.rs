@@ -1,6 +1,8 @@
 //! "The tree": its check, the nodes that a target addresses, and a node's full path.
 
-use crate::path::{is_rooted, is_target, segments, Segment, SESSION};
+use crate::beginning::longest_beginning;
+use crate::form::Form;
+use crate::path::{is_rooted, segments, Segment, SESSION};
 use crate::refusal::{
     Refusal, ABOVE_THE_ROOT, NO_SUCH_CHILD, NO_SUCH_NODE, ROOM_TOO_SMALL, TARGET_MALFORMED,
     TREE_MALFORMED,
@@ -148,8 +150,9 @@ pub fn resolve(
     default_target: usize,
     list: &mut [u16],
 ) -> Result<Resolved, Refusal> {
-    if !text.is_empty() && !is_target(text) {
-        return Err(Refusal::new(TARGET_MALFORMED, 0));
+    if !text.is_empty() && !Form::Target.accepts(text) {
+        let can_stay = longest_beginning(Form::Target, text);
+        return Err(Refusal::new(TARGET_MALFORMED, can_stay));
     }
     let count = check_tree(tree)?;
     if default_target > count {

@@ -8,7 +8,7 @@ use clp_reader::tree::{check_tree, resolve, Resolved};
 use common::{assert_same_text, numbered_nodes, read_text, repeated};
 
 /// "Lines to check against", each with the text of its answer; `Show` as document 02's request a
-/// has it.
+/// has it, and the places of 10, 12 and 13 as its request c has them.
 const LINES_TO_CHECK: [(&str, &str); 13] = [
     ("", "blank"),
     ("show", "verb 10"),
@@ -16,13 +16,13 @@ const LINES_TO_CHECK: [(&str, &str); 13] = [
     ("Show", "verb 10"),
     ("reset -f -force", "refusal 8 9"),
     ("show -level", "refusal 9 11"),
-    ("show -level 02", "refusal 10 12"),
+    ("show -level 02", "refusal 10 13"),
     ("set Name=\"a b\"", "verb 9|property 4 4 1 9 5"),
     ("set Name=a` b", "verb 9|property 4 4 1 9 4"),
     ("reset \"os1", "refusal 4 6"),
     ("reset /system1 -f", "refusal 11 15"),
-    ("cd /system1/", "refusal 12 3"),
-    ("set a=b=c", "refusal 13 4"),
+    ("cd /system1/", "refusal 12 12"),
+    ("set a=b=c", "refusal 13 7"),
 ];
 
 #[test]
@@ -115,7 +115,7 @@ fn number_65535_and_65536() {
     assert!(is_target(b"cpu65535") && !is_target(b"cpu65536"));
     assert!(!is_target(b"cpu0") && !is_target(b"cpu01") && !is_target(b"cpu"));
     assert_same_text(b"cd /cpu65535", "verb 1|target 3 9");
-    assert_same_text(b"cd /cpu65536", "refusal 12 3");
+    assert_same_text(b"cd /cpu65536", "refusal 12 11");
 }
 
 #[test]
@@ -151,7 +151,7 @@ fn slips_to_look_for() {
     // A pair of GRAVEs before LF joins nothing.
     assert_eq!(list_capture(b"cd``\ncd\n"), b"refusal 6 0\nverb 1\n");
     assert_same_text(b"show cpu4", "verb 10|target 5 4");
-    assert_same_text(b"set a=b` c=d", "refusal 13 4");
+    assert_same_text(b"set a=b` c=d", "refusal 13 10");
     assert_same_text(b"set a=b` c", "verb 9|property 4 1 1 6 4");
     assert_eq!(list_capture(b"cd\r\ncd\r\n"), b"verb 1\nverb 1\n");
 }

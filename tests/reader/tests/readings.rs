@@ -1,5 +1,5 @@
 //! Each row of the tables of readings, section by section: of document 01, and of document 02 for
-//! requests a and b.
+//! requests a to c.
 
 mod common;
 
@@ -11,7 +11,9 @@ use clp_reader::same::same_command;
 use clp_reader::terms::{next_term, stood_for, TermReader};
 use clp_reader::tree::{check_tree, full_path, resolve, Resolved};
 use clp_reader::Part;
-use common::{assert_each, assert_same_text, node, numbered_nodes, read_text, repeated, Tap};
+use common::{
+    assert_each, assert_refused, assert_same_text, node, numbered_nodes, read_text, repeated, Tap,
+};
 
 const NO_ROOM: Refusal = Refusal {
     number: 19,
@@ -208,9 +210,13 @@ mod terms {
 
     #[test]
     fn quote_marks_are_bare() {
-        assert_each(
-            &["set a=b\"c\"", "set a=\"b\"c", "set a=\"b\"\"c\""],
-            "refusal 13 4",
+        assert_refused(
+            13,
+            &[
+                ("set a=b\"c\"", 7),
+                ("set a=\"b\"c", 9),
+                ("set a=\"b\"\"c\"", 9),
+            ],
         );
     }
 
@@ -282,12 +288,12 @@ mod command {
 
     #[test]
     fn session_and_tags_are_compared_byte_for_byte() {
-        assert_each(&["show session", "show Session"], "refusal 12 5");
+        assert_each(&["show session", "show Session"], "refusal 12 12");
         let mut list = [0; 1];
         let missed = resolve(b"/CPU1", &numbered_nodes(1), 0, &mut list);
         assert_eq!(missed, Err(refusal(18, 1)));
         for text in [&b"session"[..], b"Session", b"sESSION"] {
-            assert_eq!(resolve(text, &[], 0, &mut list), Err(refusal(12, 0)));
+            assert_eq!(resolve(text, &[], 0, &mut list), Err(refusal(12, 7)));
         }
     }
 
@@ -332,10 +338,10 @@ mod command {
                 "show -l `1",
                 "show -l \"all\"",
                 "show -k all",
-                "show -k 00",
             ],
             "refusal 10 8",
         );
+        assert_same_text(b"show -k 00", "refusal 10 9");
         assert_same_text(b"show -k 0 -l all", "verb 10|option 7 8 1|option 8 13 3");
     }
 
@@ -343,13 +349,13 @@ mod command {
     fn numbers_up_to_4294967295() {
         assert_same_text(b"show -k 4294967295", "verb 10|option 7 8 10");
         assert_same_text(b"show -l 4294967295", "verb 10|option 8 8 10");
-        assert_each(
+        assert_refused(
+            10,
             &[
-                "show -k 4294967296",
-                "show -l 4294967296",
-                "show -k 42949672950",
+                ("show -k 4294967296", 17),
+                ("show -l 4294967296", 17),
+                ("show -k 42949672950", 18),
             ],
-            "refusal 10 8",
         );
     }
 
@@ -358,44 +364,48 @@ mod command {
         assert_same_text(b"load -source a=,(b", "verb 7|option 10 13 5");
         assert_same_text(b"load -source a`\"b", "verb 7|option 10 13 4");
         assert_same_text(b"load -source \"a\"", "refusal 10 13");
-        assert_same_text(b"dump -destination a\"b\"", "refusal 10 18");
+        assert_same_text(b"dump -destination a\"b\"", "refusal 10 19");
     }
 
     #[test]
     fn display_and_output_items() {
-        assert_each(
+        assert_refused(
+            10,
             &[
-                "show -d a==b",
-                "show -o a,,b",
-                "show -d a,",
-                "show -d ,a",
-                "show -d a=",
-                "show -d 1",
+                ("show -d a==b", 10),
+                ("show -o a,,b", 10),
+                ("show -d a,", 10),
+                ("show -d ,a", 8),
+                ("show -d a=", 10),
+                ("show -d 1", 8),
             ],
-            "refusal 10 8",
         );
         assert_same_text(
             b"show -d a,b=c,d=(e,\"f,g\"),h=\"i\"",
             "verb 10|option 3 8 23",
         );
-        assert_each(
-            &["show -d a=(b)c", "show -d a=\"b\"c", "show -d a=b(c)"],
-            "refusal 10 8",
+        assert_refused(
+            10,
+            &[
+                ("show -d a=(b)c", 13),
+                ("show -d a=\"b\"c", 13),
+                ("show -d a=b(c)", 11),
+            ],
         );
     }
 
     #[test]
     fn empty_items_are_of_no_form() {
-        assert_each(
+        assert_refused(
+            13,
             &[
-                "set a=()",
-                "set a=(b,)",
-                "set a=(,b)",
-                "set a=(b,,c)",
-                "set a=",
-                "set a==",
+                ("set a=()", 7),
+                ("set a=(b,)", 9),
+                ("set a=(,b)", 7),
+                ("set a=(b,,c)", 9),
+                ("set a=", 6),
+                ("set a==", 7),
             ],
-            "refusal 13 4",
         );
         assert_same_text(b"set a=(\"\")", "verb 9|property 4 1 1 6 4");
         assert_same_text(b"set a==\"\"", "verb 9|property 4 1 2 7 2");
@@ -403,16 +413,16 @@ mod command {
 
     #[test]
     fn a_list_must_end_with_the_value() {
-        assert_each(
+        assert_refused(
+            13,
             &[
-                "set a=(b)c",
-                "set a=(b)(c)",
-                "set a=b(c)",
-                "set a=(b",
-                "set a=((b))",
-                "set a=b)",
+                ("set a=(b)c", 9),
+                ("set a=(b)(c)", 9),
+                ("set a=b(c)", 7),
+                ("set a=(b", 8),
+                ("set a=((b))", 7),
+                ("set a=b)", 7),
             ],
-            "refusal 13 4",
         );
         assert_same_text(b"set a=`(b`)", "verb 9|property 4 1 1 6 5");
     }
@@ -421,15 +431,19 @@ mod command {
     fn a_list_has_at_most_16_items() {
         let list = |count: usize| repeated("set a=(b", ",b", count - 1, ")");
         assert_same_text(&list(16), "verb 9|property 4 1 1 6 33");
-        assert_same_text(&list(17), "refusal 13 4");
+        assert_same_text(&list(17), "refusal 13 38");
     }
 
     #[test]
     fn an_items_end_inside_a_list() {
         assert_same_text(b"set a=(\"b\",\"c\")", "verb 9|property 4 1 1 6 9");
-        assert_each(
-            &["set a=(\"b\"c)", "set a=(b\"c\")", "set a=(b=c)"],
-            "refusal 13 4",
+        assert_refused(
+            13,
+            &[
+                ("set a=(\"b\"c)", 10),
+                ("set a=(b\"c\")", 8),
+                ("set a=(b=c)", 8),
+            ],
         );
     }
 
@@ -440,8 +454,8 @@ mod command {
 
     #[test]
     fn a_first_term_without_bare_equals_is_the_target() {
-        assert_each(&["set \"a=b\"", "set a`=b", "set Name"], "refusal 12 4");
-        assert_same_text(b"show Name", "refusal 12 5");
+        assert_refused(12, &[("set \"a=b\"", 4), ("set a`=b", 5), ("set Name", 8)]);
+        assert_same_text(b"show Name", "refusal 12 9");
     }
 
     #[test]
@@ -453,17 +467,15 @@ mod command {
 
     #[test]
     fn parentheses_hold_no_spaces() {
-        assert_same_text(b"set a=(b, c)", "refusal 13 4");
+        assert_same_text(b"set a=(b, c)", "refusal 13 9");
         assert_same_text(b"set a=(b,\" \",c)", "verb 9|property 4 1 1 6 9");
     }
 
     #[test]
     fn topics_of_help() {
         assert_same_text(b"help show", "verb 6|property 5 4 0 9 0");
-        assert_each(
-            &["help a=b", "help /", "help \"a\"", "help 1"],
-            "refusal 13 5",
-        );
+        assert_each(&["help /", "help \"a\"", "help 1"], "refusal 13 5");
+        assert_same_text(b"help a=b", "refusal 13 6");
         assert_same_text(b"help a -f", "refusal 11 7");
         assert_same_text(&repeated("help", " a", 33, ""), "refusal 14 69");
         assert_eq!(
@@ -483,24 +495,31 @@ mod command {
     #[test]
     fn segments_of_a_path() {
         assert_same_text(&repeated("cd .", "/..", 15, ""), "verb 1|target 3 46");
-        assert_same_text(&repeated("cd .", "/..", 16, ""), "refusal 12 3");
+        assert_same_text(&repeated("cd .", "/..", 16, ""), "refusal 12 49");
         assert_same_text(&repeated("cd ", "\\a1", 16, ""), "verb 1|target 3 48");
-        assert_each(
+        assert_refused(
+            12,
             &[
-                "cd *",
-                "cd a*/b1",
-                "cd a*b",
-                "cd ...",
-                "cd //a1",
-                "cd a1//b1",
-                "cd a1/",
-                "cd /*",
+                ("cd *", 3),
+                ("cd a*/b1", 5),
+                ("cd a*b", 5),
+                ("cd ...", 5),
+                ("cd //a1", 4),
+                ("cd a1//b1", 6),
+                ("cd a1/", 6),
+                ("cd /*", 4),
             ],
-            "refusal 12 3",
         );
-        assert_each(
-            &["cd a`1", "cd a1`/b1", "cd \"/\"", "cd a", "cd 1", "cd ./"],
-            "refusal 12 3",
+        assert_refused(
+            12,
+            &[
+                ("cd a`1", 4),
+                ("cd a1`/b1", 5),
+                ("cd \"/\"", 3),
+                ("cd a", 4),
+                ("cd 1", 3),
+                ("cd ./", 5),
+            ],
         );
         assert_each(&["cd /", "cd \\", "cd ."], "verb 1|target 3 1");
     }
@@ -510,9 +529,13 @@ mod command {
         assert_same_text(b"show SESSION", "verb 10|target 5 7");
         assert_same_text(b"show SESSION1", "verb 10|target 5 8");
         assert_same_text(b"show SESSION*", "verb 10|target 5 8");
-        assert_each(
-            &["show \"SESSION\"", "show /SESSION", "show SESSION/"],
-            "refusal 12 5",
+        assert_refused(
+            12,
+            &[
+                ("show \"SESSION\"", 5),
+                ("show /SESSION", 13),
+                ("show SESSION/", 12),
+            ],
         );
     }
 
@@ -520,11 +543,9 @@ mod command {
     fn names_of_1_to_64_bytes() {
         let named = |length: usize| repeated("set n", "_", length - 1, "=b");
         assert_same_text(&named(64), "verb 9|property 4 64 1 69 1");
-        assert_same_text(&named(65), "refusal 13 4");
-        assert_each(
-            &["set _a=b", "set 1a=b", "set =b", "set a-b=c"],
-            "refusal 13 4",
-        );
+        assert_same_text(&named(65), "refusal 13 68");
+        assert_each(&["set _a=b", "set 1a=b", "set =b"], "refusal 13 4");
+        assert_same_text(b"set a-b=c", "refusal 13 5");
     }
 
     #[test]
@@ -637,19 +658,20 @@ mod resolving {
     }
 
     #[test]
-    fn text_of_no_form_is_12_at_0_and_comes_first() {
+    fn text_of_no_form_is_12_and_comes_first() {
         let bad_tree = &small_tree()[..50];
         let long = vec![b'a'; 70_000];
-        for text in [
-            &long[..],
-            b" /",
-            b"/ ",
-            b"cpu1\x80",
-            b"cpu1 ",
-            b"SESSION/",
-            b"/cpu",
+        for (text, place) in [
+            (&long[..], 16),
+            (b" /", 0),
+            (b"/ ", 1),
+            (b"cpu1\x80", 4),
+            (b"cpu1 ", 4),
+            (b"SESSION/", 7),
+            (b"/cpu", 4),
         ] {
-            assert_eq!(resolve(text, bad_tree, 9, &mut []), Err(refusal(12, 0)));
+            let answer = resolve(text, bad_tree, 9, &mut []);
+            assert_eq!(answer, Err(refusal(12, place)));
         }
         assert_eq!(resolve(b"", &[], 0, &mut [7]), Ok(Resolved::Nodes(1)));
     }
@@ -872,10 +894,8 @@ mod shouted {
             ],
             "refusal 7 5",
         );
-        assert_each(
-            &["show -l @ll", "show -l @LL", "show -l AL"],
-            "refusal 10 8",
-        );
+        assert_each(&["show -l @ll", "show -l @LL"], "refusal 10 8");
+        assert_same_text(b"show -l AL", "refusal 10 10");
         // Bytes that differ from a letter in one other bit, or lie beyond ASCII: row 2 comes first.
         assert_same_text(b"C\xe4", "refusal 2 1");
         assert_same_text(b"\x13HOW", "refusal 2 0");
@@ -917,10 +937,8 @@ mod shouted {
             "refusal 6 0",
         );
         assert_each(&["show -\"L\" 1", "show -`L 1"], "refusal 7 5");
-        assert_each(
-            &["show -l \"ALL\"", "show -l `ALL", "show -l A`LL"],
-            "refusal 10 8",
-        );
+        assert_each(&["show -l \"ALL\"", "show -l `ALL"], "refusal 10 8");
+        assert_same_text(b"show -l A`LL", "refusal 10 9");
     }
 
     #[test]
@@ -929,7 +947,7 @@ mod shouted {
         assert!(!same("help SHOW", "help show") && same("HELP SHOW", "help SHOW"));
         assert_eq!(canonical("HELP Show ALL"), "help Show ALL");
         // A verb in any case is help: its topics are no target, and have no value.
-        assert_each(&["HELP a=b", "Help /"], "refusal 13 5");
+        assert_refused(13, &[("HELP a=b", 6), ("Help /", 5)]);
     }
 
     #[test]
@@ -1122,7 +1140,7 @@ mod options_of_a_verb {
             "refusal 20 3",
         );
         // What an option before it lacks or has wrong is told first.
-        assert_same_text(b"cd -k 02 -f", "refusal 10 6");
+        assert_same_text(b"cd -k 02 -f", "refusal 10 7");
         assert_same_text(b"cd -k -f", "refusal 9 6");
         assert_same_text(b"cd -o a -f", "refusal 20 8");
     }
@@ -1139,7 +1157,8 @@ mod options_of_a_verb {
             ],
             "refusal 9 12",
         );
-        assert_each(&["cd `-f", "cd \"-f\"", "cd f"], "refusal 12 3");
+        assert_each(&["cd `-f", "cd \"-f\""], "refusal 12 3");
+        assert_same_text(b"cd f", "refusal 12 4");
         assert_each(&["cd -\"f\"", "cd -`f", "cd -f=1", "cd --f"], "refusal 7 3");
         assert_same_text(b"load -source `-level", "verb 7|option 10 13 7");
         assert_same_text(b"cd -o level=-f", "verb 1|option 9 6 8");
@@ -1175,5 +1194,141 @@ mod options_of_a_verb {
         assert_eq!(room, [0xaa; 399]);
         assert_eq!(target_part(b"cd -f /"), Part::default());
         assert!(!same("cd -f", "cd -f") && !same("cd -f", ""));
+    }
+}
+
+/// Document 02, request c.
+mod point_at_the_byte {
+    use super::*;
+    use clp_reader::beginning::longest_beginning;
+    use clp_reader::form::Form;
+
+    #[test]
+    fn the_beginning_may_be_the_whole_term() {
+        assert_refused(12, &[("cd /a1/", 7), ("show Name", 9), ("cd /a1/ b=c", 7)]);
+        assert_refused(10, &[("show -d a,", 10), ("show -l al -x", 10)]);
+        assert_refused(13, &[("set a=(b,", 9), ("set / a= b=c", 8)]);
+    }
+
+    #[test]
+    fn its_end_is_the_first_byte_that_cant_stay() {
+        assert_refused(13, &[("set a=b=c", 7), ("set a=b,c=d", 7)]);
+        assert_refused(12, &[("cd a1,b1", 5), ("cd /a1:", 6)]);
+        assert_refused(10, &[("show -d a;b", 9), ("cd -k 1.5", 7)]);
+    }
+
+    #[test]
+    fn where_no_byte_fits_it_is_the_terms_start() {
+        assert_refused(12, &[("cd \"\"", 3), ("cd   @", 5)]);
+        assert_refused(10, &[("show -l x", 8), ("load -source \"\"", 13)]);
+        assert_refused(13, &[("set =", 4), ("help  1a", 6)]);
+    }
+
+    #[test]
+    fn limits_are_part_of_the_form() {
+        assert_refused(10, &[("show -l 4294967296", 17), ("cd -k 4294967300", 15)]);
+        assert_refused(12, &[("cd a65536", 8), ("cd a65540", 8), ("cd a7000/", 9)]);
+        assert_same_text(&repeated("help ", "a", 65, ""), "refusal 13 69");
+        assert_same_text(&repeated("cd ", "a", 17, "1"), "refusal 12 19");
+        assert_same_text(&repeated("cd ", "a", 16, ""), "refusal 12 19");
+        assert_same_text(&repeated("show -o b,", "a", 65, ""), "refusal 10 74");
+    }
+
+    #[test]
+    fn the_separator_or_comma_after_the_16th_cant_stay() {
+        assert_same_text(&repeated("cd ", "/a1", 17, ""), "refusal 12 51");
+        assert_same_text(&repeated("cd ", "/a1", 16, "/"), "refusal 12 51");
+        assert_same_text(&repeated("set a=(", "x,", 16, ""), "refusal 13 38");
+        assert_same_text(&repeated("set a=(", "x,", 15, ""), "refusal 13 37");
+        assert_same_text(&repeated("show -d a=(", "x,", 16, "x)"), "refusal 10 42");
+        // Items of display and output that stand in no list have no such limit.
+        assert_same_text(&repeated("show -d a", ",a", 40, ","), "refusal 10 90");
+    }
+
+    #[test]
+    fn level_has_two_branches_and_keep_one() {
+        assert_refused(10, &[("show -l al", 10), ("show -l allx", 11)]);
+        assert_refused(10, &[("show -l AL", 10), ("show -l aLx", 10)]);
+        assert_refused(10, &[("show -l 1al", 9), ("show -l a1", 9)]);
+        assert_refused(10, &[("cd -k al", 6), ("cd -k all", 6)]);
+    }
+
+    #[test]
+    fn the_text_need_not_fit_the_line() {
+        let line = repeated("set", " ", 1018, "a=(");
+        assert_eq!(line.len(), 1024);
+        assert_same_text(&line, "refusal 13 1024");
+    }
+
+    #[test]
+    fn a_property_without_target_is_the_property_alone() {
+        assert_refused(
+            13,
+            &[("set /=", 4), ("set /a1=b", 4), ("set SESSION/=b", 11)],
+        );
+    }
+
+    #[test]
+    fn a_topic_is_a_bare_name() {
+        assert_refused(13, &[("help a=b", 6), ("help a ==", 7), ("help a/", 6)]);
+    }
+
+    #[test]
+    fn quotes_and_graves_count() {
+        assert_same_text(b"set a=\"b\"c", "refusal 13 9");
+        assert_refused(13, &[("set a=`\"=", 8), ("set a=\"`\"\"b", 10)]);
+        assert_refused(10, &[("load -source `\"`a\"\"", 17)]);
+        // Whatever follows a GRAVE that may stand, it is not there that the place falls.
+        for byte in 0x20..=0x7e {
+            for (form, text) in [(Form::Location, "a`"), (Form::Property, "a=b`")] {
+                let text = [text.as_bytes(), &[byte, b'"', b'"']].concat();
+                assert_eq!(longest_beginning(form, &text), text.len() - 2);
+            }
+            let text = [b"a=\"`", &[byte][..], b"\"\"\""].concat();
+            assert_eq!(longest_beginning(Form::Items, &text), 6);
+        }
+    }
+
+    #[test]
+    fn twelve_from_resolving_moves_too() {
+        let mut list = [7];
+        let long = [b'x'; 2000];
+        for (text, place) in [
+            (&b"a1/"[..], 3),
+            (b"a 1", 1),
+            (b"\xff", 0),
+            (b"a*/b1", 2),
+            (&long, 16),
+        ] {
+            // It still comes before 15 and 16.
+            let answer = resolve(text, &[0], 9, &mut list);
+            assert_eq!(answer, Err(refusal(12, place)));
+        }
+        assert_eq!(resolve(b"", &[], 0, &mut list), Ok(Resolved::Nodes(1)));
+    }
+
+    #[test]
+    fn other_numbers_and_orders_stay() {
+        assert_refused(9, &[("show -l -02", 8), ("cd -k", 5)]);
+        assert_refused(11, &[("set / a -b=c=", 8)]);
+        assert_same_text(&repeated("set /", " a", 32, " b=c="), "refusal 14 70");
+        assert_same_text(&repeated("set /", " a", 31, " b=c="), "refusal 13 71");
+        // The first term that is refused is the one told of.
+        assert_refused(10, &[("show -l 02 -zz", 9), ("show -l 02 a1/", 9)]);
+        assert_refused(13, &[("set a=b c=d=e f=g=h", 11), ("cd / a=b=c -f", 8)]);
+        assert_refused(2, &[("show -l 02\t", 10)]);
+        assert_refused(4, &[("show -l 02 \"", 11)]);
+    }
+
+    #[test]
+    fn a_refused_line_still_changes_nothing() {
+        let mut room = [0xaa; 399];
+        for line in ["show -l 02", "cd /a1/", "set a=b=c"] {
+            let answer = read(line.as_bytes(), &mut room).unwrap_err();
+            assert_eq!(read(line.as_bytes(), &mut []), Err(answer));
+            assert_eq!(write_canonical(line.as_bytes(), &mut room), Err(answer));
+            assert_eq!(target_part(line.as_bytes()), Part::default());
+        }
+        assert_eq!(room, [0xaa; 399]);
     }
 }

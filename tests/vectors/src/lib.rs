@@ -29,16 +29,30 @@ pub const REQUEST_B: Vectors = Vectors {
     count: 191,
 };
 
+/// Document 02, request c: what is read, a line or a text to resolve; its bytes; the answer.
+pub const REQUEST_C: Vectors = Vectors {
+    name: "02-c.tsv",
+    text: include_str!("../02-c.tsv"),
+    count: 235,
+};
+
+/// The tree in which request c's texts are resolved, `node 0 a 1`, from its root and with this room.
+pub const TREE_C: &[u8; 22] = b"\x10\0\0\x01a\0\0\0\0\0\0\0\0\0\0\0\0\0\0\0\0\x01";
+pub const ROOM_C: usize = 9;
+
 /// The cases that a later request changed: which case, its line, the request, the reading since
 /// then. Each is refused now, and a refused line's writing is that refusal.
 const CHANGED: Vectors = Vectors {
     name: "changed.tsv",
     text: include_str!("../changed.tsv"),
-    count: 2,
+    count: 6,
 };
 
 /// What a case expects: bytes, or a refusal.
 pub type Answer = Result<Vec<u8>, Refused>;
+
+/// What a text to resolve expects: node numbers, none for a session; or a refusal.
+pub type Addressed = Result<Option<Vec<u16>>, Refused>;
 
 #[derive(Clone, Copy, Debug, PartialEq, Eq)]
 pub struct Refused {
@@ -101,6 +115,16 @@ impl Case {
         self.cell(column, bytes_of)
     }
 
+    /// The cell as one of these words.
+    pub fn word(&self, column: usize, words: &[&'static str]) -> &'static str {
+        self.cell(column, |cell| words.iter().copied().find(|&word| word == cell))
+    }
+
+    /// The cell as what a text addresses.
+    pub fn addressed(&self, column: usize) -> Addressed {
+        self.cell(column, |cell| or_refused(cell, addressed_of))
+    }
+
     /// The cell as a reading, in the bytes of its records.
     pub fn reading(&self, column: usize) -> Answer {
         self.since(self.cell(column, |cell| or_refused(cell, records_of)))
@@ -127,7 +151,7 @@ impl Case {
 }
 
 /// A refusal where the cell is one, otherwise what `read` makes of it.
-fn or_refused(cell: &str, read: impl Fn(&str) -> Option<Vec<u8>>) -> Option<Answer> {
+fn or_refused<T>(cell: &str, read: impl Fn(&str) -> Option<T>) -> Option<Result<T, Refused>> {
     if cell.starts_with("refusal ") {
         refusal_of(cell).map(Err)
     } else {
@@ -148,6 +172,15 @@ fn refusal_of(cell: &str) -> Option<Refused> {
 fn number_of(text: &str) -> Option<u16> {
     let number: u16 = text.parse().ok()?;
     (number.to_string() == text).then_some(number)
+}
+
+/// `nodes` and node numbers, or `session`.
+fn addressed_of(cell: &str) -> Option<Option<Vec<u16>>> {
+    if cell == "session" {
+        return Some(None);
+    }
+    let numbers = cell.strip_prefix("nodes ")?.split(' ');
+    numbers.map(number_of).collect::<Option<Vec<u16>>>().map(Some)
 }
 
 /// Records as the lister prints them, joined by `; `.
@@ -305,6 +338,34 @@ mod tests {
     }
 
     #[test]
+    fn what_a_text_addresses_in_each_form() {
+        let read = |cell| or_refused(cell, addressed_of);
+        assert_eq!(read("session"), Some(Ok(None)));
+        assert_eq!(read("nodes 0"), Some(Ok(Some(vec![0]))));
+        assert_eq!(read("nodes 2 65535"), Some(Ok(Some(vec![2, 65535]))));
+        let refused = Refused { number: 17, place: 0 };
+        assert_eq!(read("refusal 17 at 0"), Some(Err(refused)));
+        for cell in ["", "nodes", "nodes ", "node 1", "nodes 1 ", "nodes 01", "nodes -1", "sessions", "session 1", "1"] {
+            assert_eq!(read(cell), None, "{cell}");
+        }
+    }
+
+    #[test]
+    fn words_are_those_of_the_file_alone() {
+        let text = "# what\tinput\nline\tb''\n";
+        let cases = Vectors { name: "file", text, count: 1 }.cases(2);
+        assert_eq!(cases[0].word(0, &["text", "line"]), "line");
+        let stopped = std::panic::catch_unwind(|| cases[0].word(0, &["text"])).expect_err("no such word");
+        assert_eq!(stopped.downcast_ref::<String>().unwrap(), "file:2: of no form: line");
+    }
+
+    #[test]
+    fn the_tree_of_request_c() {
+        let tag = [b"a".as_slice(), &[0; 15]].concat();
+        assert_eq!(TREE_C[..], [&[16, 0, 0, 1], &tag[..], &[0, 1]].concat());
+    }
+
+    #[test]
     fn readings_of_no_form() {
         let cells = [
             "",
@@ -358,7 +419,7 @@ mod tests {
 
     #[test]
     fn changes_are_of_cases_in_files_of_earlier_requests() {
-        let files = [REQUEST_A, REQUEST_B].map(|file| file.name);
+        let files = [REQUEST_A, REQUEST_B, REQUEST_C].map(|file| file.name);
         for change in CHANGED.rows(4) {
             let (file, _) = change.cells[0].split_once(':').expect("a file and a line");
             assert!(files.contains(&file), "{}: no such file: {file}", change.at);

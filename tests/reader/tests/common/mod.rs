@@ -30,6 +30,13 @@ pub fn assert_each(lines: &[&str], expected: &str) {
     }
 }
 
+/// Asserts that each of the lines is refused as `number` at its place.
+pub fn assert_refused(number: u8, lines: &[(&str, u16)]) {
+    for (line, place) in lines {
+        assert_same_text(line.as_bytes(), &format!("refusal {number} {place}"));
+    }
+}
+
 pub fn repeated(before: &str, middle: &str, count: usize, after: &str) -> Vec<u8> {
     format!("{before}{}{after}", middle.repeat(count)).into_bytes()
 }
