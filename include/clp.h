@@ -9,7 +9,8 @@
  * One convention for all answers. A function answers with a clp_answer, or with a struct that begins like one:
  *     number == 0   the call succeeded, and value is what the function's description says;
  *     number != 0   the call is refused; number is the refusal's number (the CLP_REFUSED_ names below) and value is its place, an index into the
- *                   text or tree that was lent. On a refusal no lent memory has changed (the joiner's line buffer apart, where a line was too long).
+ *                   text or tree that was lent. It may be the text's length, past the last byte: look at the length before you look at the byte.
+ *                   On a refusal no lent memory has changed (the joiner's line buffer apart, where a line was too long).
  * The one exception is clp_target: its clp_part is a position and a length and no clp_answer, and it refuses nothing.
  * Functions that write fill the start of the lent room and leave its rest as it was. Nothing is told through a pointer, so a refusal leaves nothing
  * half told. A function that writes is refused as CLP_REFUSED_ROOM where its room is too small; "Sizes" below has the room that is always enough.
@@ -88,10 +89,10 @@ enum {
     CLP_REFUSED_OPTION = 7,         /* no such option: start of the term; one that the verb can't have is 20 */
     CLP_REFUSED_OPTION_TWICE = 8,   /* option already given, by either name: start of the term */
     CLP_REFUSED_NO_ARGUMENT = 9,    /* argument missing, or its term starts with a bare -: that term, or the line's length */
-    CLP_REFUSED_ARGUMENT = 10,      /* argument not of its form: start of the argument */
+    CLP_REFUSED_ARGUMENT = 10,      /* argument not of its form: the first byte that can't stay, see below */
     CLP_REFUSED_LATE_OPTION = 11,   /* a bare - starts a term after the options' end: start of the term */
-    CLP_REFUSED_TARGET = 12,        /* target not of its form: start of the term */
-    CLP_REFUSED_PROPERTY = 13,      /* property not of its form: start of the term */
+    CLP_REFUSED_TARGET = 12,        /* target not of its form: likewise */
+    CLP_REFUSED_PROPERTY = 13,      /* property not of its form: likewise */
     CLP_REFUSED_PROPERTIES = 14,    /* over 32 properties: start of the 33rd */
     CLP_REFUSED_TREE = 15,          /* tree or records malformed: start of the first bad record */
     CLP_REFUSED_NODE = 16,          /* the default target, or the node asked for, is no node: 0 */
@@ -100,6 +101,16 @@ enum {
     CLP_REFUSED_ROOM = 19,          /* lent room too small, or a bad state or line buffer in joining: 0 */
     CLP_REFUSED_NOT_FOR_VERB = 20   /* an option that this verb can't have (CLP_OPTION_ below): start of the term; it comes after 7, before 8 */
 };
+
+/* The place of 10, 12 and 13. The bytes of the term before it are the beginning of some good argument of that option, some good target or some good
+ * property (with help, a topic), and with the byte at the place they are the beginning of none: that is the byte to point at. Where the whole term could
+ * go on to a good one, more is wanted, and the place is the term's end, which may be the line's length. Where not even its first byte can stay, it is the
+ * term's start. Limits count: the digit that makes a number too large can't stay, nor the 65th byte of a name, the 17th letter of a tag, or the separator
+ * or comma after the 16th segment or item. For example
+ *     show -level 02      10 at 13: after 0 a number is complete, so the 2 can't stay
+ *     cd /system1/        12 at 12, the line's length: a segment is wanted after the last separator
+ *     set a=b=c           13 at 7: a=b is good, and could go on, but not with =
+ * and clp_list writes the last of these as 05 0D 00 07. */
 
 /* Which function can give which:
  *     clp_join          1, 19 (a bad state, or a buffer that is not of CLP_LINE_BYTES)
@@ -280,7 +291,8 @@ clp_answer clp_meant(const uint8_t *text, size_t text_len, uint8_t *room, size_t
 clp_answer clp_check_tree(const uint8_t *tree, size_t tree_len);
 
 /* The instances that a target's text addresses from a default target, a node number: the value is how many node numbers now stand at the list's start,
- * in record order, or CLP_SESSION, which needs no room. An empty text is the default target. The text is a target's as clp_target gives its part. */
+ * in record order, or CLP_SESSION, which needs no room. An empty text is the default target. The text is a target's as clp_target gives its part; any
+ * other is CLP_REFUSED_TARGET, whatever the tree is, at the first byte of the text that can't stay, or at its end where more is wanted: system1/ at 8. */
 clp_answer clp_resolve(const uint8_t *text, size_t text_len, const uint8_t *tree, size_t tree_len, size_t default_target, uint16_t *list, size_t list_len);
 
 /* Writes the full path of a node; the value is how many bytes, at most CLP_PATH_BYTES. The root's is "/". The stack: CLP_STACK_PATH_BYTES. */
