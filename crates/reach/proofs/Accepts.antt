@@ -202,11 +202,14 @@ word-after b w = simp (other-byte isWord 96 b true (unfold isWord in refl) w, ot
 -- a byte that a name goes on with is of its kind
 named-word : (k b : ℕ) → isNameByte k b ≡ true → isWord b ≡ true
 unfolding isNameByte
-named-word k b = go (eqb k 0)
+named-word k b h = go (eqb k 0) refl
   where
-    go : (t : Bool) → cond t (isLetter b) (ltb k 64 && isWord b) ≡ true → isWord b ≡ true
-    go true h = letter-word b h
-    go false h = and-r (ltb k 64) (isWord b) h
+    later : (most : ℕ) → ltb k most && isWord b ≡ true → isWord b ≡ true
+    later most e = and-r (ltb k most) (isWord b) e
+
+    go : (t : Bool) → eqb k 0 ≡ t → isWord b ≡ true
+    go true e = letter-word b (rw e at h)
+    go false e = later _ (rw e at h)
 
 module _ (equal comma : Stage) (e : isLive equal Out ≡ not (isOffStage equal)) (c : isLive comma Out ≡ not (isOffStage comma)) where
   -- a comma and the first byte of a value do

@@ -12,14 +12,11 @@ use Rattle.text.specs.Bytes.{isDigit, isLetter, isWord, bytes}
 use Rattle.text.proofs.Tests.{and-l, and-r}
 use Rattle.text.proofs.Decimals.{told-is}
 use Rattle.terms.specs.declared.Mode.{Mode}
-use Rattle.terms.specs.declared.Mode.the-variants.{Out}
-use Rattle.terms.specs.Signs.{gives, after}
 use Rattle.words.specs.Words.{lower, allName}
 use Rattle.forms.specs.declared.At.{At}
 use Rattle.forms.specs.declared.At.the-variants.{Start}
 use Rattle.forms.specs.Targets.{isSeparator}
-use Rattle.forms.specs.Automata.{whole, textOver}
-use Rattle.forms.specs.Steps.{bareAt}
+use Rattle.forms.specs.Automata.{whole}
 use Rattle.reach.specs.declared.Tally.{Tally}
 use Rattle.reach.specs.declared.Tally.the-variants as tally
 use Rattle.reach.specs.declared.Road.{Road}
@@ -28,7 +25,7 @@ use Rattle.reach.specs.declared.Stage.{Stage}
 use Rattle.reach.specs.declared.Stage.the-variants as stage
 use Rattle.reach.specs.Numbers.{digitMore, isAllLetter, allStep, firstStep, tallyStep}
 use Rattle.reach.specs.Roads.{startStep, partStep, tagEnd, tagStep, numberStep, roadStep}
-use Rattle.reach.specs.Stages.{isAlive, freeStep, commaStep, isNameByte, nameStep, textOn, valueStep, saidStep, inText, itemsNext, itemsOn, inItems, stageStep}
+use Rattle.reach.specs.Stages.{freeStep, commaStep, isNameByte, nameStep, valueStep, saidStep, inText, itemsNext, inItems, stageStep}
 
 -- a flag that a function gave, turned
 flag : (t r : Bool) → r ≡ t → not r ≡ true → t ≡ false
@@ -192,13 +189,17 @@ module _ (q : Road) (b : ℕ) (r : Road) where
 
 -- ---- names and values
 
-pub name-few : (k b : ℕ) (n : Bool) → n ≡ isNameByte k b → n ≡ true → k < 64
+-- a name that goes on is short
+pub name-few : (k b : ℕ) (n : Bool) → n ≡ isNameByte k b → n ≡ true → k < 1024
 unfolding isNameByte
 name-few k b n e t = go (eqb k 0) refl (sym e ∙ t)
   where
-    go : (x : Bool) → eqb k 0 ≡ x → cond (eqb k 0) (isLetter b) (ltb k 64 && isWord b) ≡ true → k < 64
+    short : (most : ℕ) → most < 1024 → ltb k most && isWord b ≡ true → k < 1024
+    short most l h = omega (arith, ltb-true k most (and-l (ltb k most) (isWord b) h))
+
+    go : (x : Bool) → eqb k 0 ≡ x → isNameByte k b ≡ true → k < 1024
     go true p h = omega (arith, eqb-true k 0 p)
-    go false p h = ltb-true k 64 (and-l (ltb k 64) (isWord b) (rw p at h))
+    go false p h = short _ (omega arith) (rw p at h)
 
 module _ (equal comma : Stage) (k b : ℕ) (n : Bool) where
   pub name-on : n ≡ isNameByte k b → n ≡ true → stage.Name (k + 1) ≡ nameStep equal comma k b

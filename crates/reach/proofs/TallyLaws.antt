@@ -1,16 +1,16 @@
 -- The machine for the arguments of keep and level goes as far as their forms do. Assumes nothing.
 use Prim.Native.Nat.{ℕ, zero, suc, _+_, _-_, _*_, _<_, _≤_}
-use mathlib.Core.Path.{_≡_, refl, sym, ap, _∙_}
+use mathlib.Core.Path.{_≡_, refl, sym, _∙_}
 use mathlib.Core.List.{List, [], _∷_}
-use mathlib.Core.Bool.{Bool, true, false, cond, not, _&&_, _||_, and-false, or-false}
+use mathlib.Core.Bool.{Bool, true, false, cond, _&&_, _||_, and-false, or-false}
 use native.Mathlib.Omega.{arith}
-use lib.ListN.{length, getD, drop}
-use lib.Dec.{eqb, leb, ltb}
-use borrow.Author.Tests.{eq-eqb, ne-eqb, eqb-true, eqb-false, leb-true, leb-false, le-leb, lt-leb}
+use lib.ListN.{drop}
+use lib.Dec.{eqb, leb}
+use borrow.Author.Tests.{ne-eqb, eqb-true, eqb-false, leb-true, leb-false, le-leb, lt-leb}
 use Rattle.text.specs.Bytes.{bytes, sameBytes, isDigit}
 use Rattle.text.specs.Lists.{allOf, isNil}
 use Rattle.text.specs.Decimal.{valueFrom, isDecimal}
-use Rattle.text.proofs.Tests.{and-l, and-r, no-case}
+use Rattle.text.proofs.Tests.{no-case}
 use Rattle.text.proofs.Classes.{digit-bounds}
 use Rattle.text.proofs.Decimals.{value-grows}
 use Rattle.words.specs.Words.{lower, lowered, names, allName}

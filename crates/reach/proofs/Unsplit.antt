@@ -9,7 +9,7 @@ use lib.Dec.{eqb}
 use borrow.Author.Tests.{eqb-true, le-ltb}
 use Rattle.text.specs.Bytes.{bytes, oneOf}
 use Rattle.text.specs.Lists.{walk}
-use Rattle.text.proofs.Tests.{and-l, and-r, no-case}
+use Rattle.text.proofs.Tests.{no-case}
 use Rattle.text.proofs.Classes.{other-byte}
 use Rattle.terms.specs.declared.Mode.{Mode}
 use Rattle.terms.specs.declared.Mode.the-variants.{Out, OutGrave, In, InGrave}
@@ -32,7 +32,7 @@ use Rattle.reach.specs.declared.Stage.the-variants as stage
 use Rattle.reach.specs.Machine.{reachBy}
 use Rattle.reach.specs.Numbers.{digitMore, isAllLetter, allStep, firstStep, tallyStep, isOffTally}
 use Rattle.reach.specs.Roads.{startStep, partStep, tagEnd, tagStep, numberStep, roadStep, isOffRoad}
-use Rattle.reach.specs.Stages.{isAlive, freeStep, inText, textOn, inItems, itemsOn, stageStep, isOffStage, stageAndMode, isOffAt, stageReach}
+use Rattle.reach.specs.Stages.{isAlive, freeStep, inText, textOn, inItems, itemsOn, stageStep, isOffStage, stageReach}
 use Rattle.reach.specs.Reach.{reachOf}
 use Rattle.reach.specs.Pairs.{graveWaits}
 use Rattle.reach.proofs.Accepts.{fits, isLive, live-step}

@@ -3,7 +3,7 @@
 use Prim.Native.Nat.{ℕ, _+_}
 use mathlib.Core.Path.{_≡_, refl, sym, ap, _∙_}
 use mathlib.Core.List.{List, [], _∷_}
-use mathlib.Core.Bool.{Bool, true, false, cond, _&&_, _||_}
+use mathlib.Core.Bool.{Bool, true, false, cond, _||_}
 use mathlib.Core.Option.{Option, none, some}
 use lib.ListN.{length}
 use lib.Dec.{eqb, leb, ltb}
@@ -11,7 +11,7 @@ use native.Mathlib.Omega.{arith}
 use borrow.Author.Tests.{eq-eqb}
 use Rattle.text.specs.Lists.{isNil, parts}
 use Rattle.text.proofs.Tests.{and-l, and-r, no-case}
-use Rattle.forms.specs.Targets.{isSegment, isStarred, areSegments, Segment, here, above, child, children, segmentOf, Target, session, path, targetOf, isSeparator}
+use Rattle.forms.specs.Targets.{isSegment, isStarred, areSegments, Segment, here, above, child, children, segmentOf, Target, targetOf, isSeparator}
 use Rattle.forms.specs.Answers.{isSome, pieceOf}
 use Rattle.forms.specs.Steps.{isLast}
 use Rattle.forms.proofs.SegmentLaws.{last-by}
@@ -26,7 +26,7 @@ use Rattle.tree.specs.declared.Checked.{Checked}
 use Rattle.tree.specs.declared.Checked.the-variants.{Good, Bad}
 use Rattle.tree.specs.declared.Resolved.the-variants as resolved
 use Rattle.tree.specs.Tree.{records, parent, checkTree}
-use Rattle.tree.specs.Resolve.{taggedUnder, namedUnder, Instances, session′, nodes, unresolved, orNone, starred, segmentStep, along, inTree, from, orForm, instancesOf, resolvedBy, resolveOf}
+use Rattle.tree.specs.Resolve.{taggedUnder, namedUnder, Instances, session′, nodes, unresolved, orNone, segmentStep, along, inTree, from, orForm, instancesOf, resolvedBy, resolveOf}
 
 -- ---- a target is not refused as 12
 
