@@ -1,1 +1,1 @@
-pub mod HandLaws
+pub mod RunLaws

@@ -1,14 +1,13 @@
 -- `clplist::feed` meets its contract.
-use mathlib.Core.Path.{_≡_, refl, sym, subst}
+use mathlib.Core.Path.{_≡_, refl}
 use mathlib.Core.Bool.{true}
-use Prim.Native.Nat.{ℕ, _-_, _≤_}
+use Prim.Native.Nat.{_-_, _≤_}
 use native.Mathlib.Omega.{arith}
 use lib.ListN.{length, take, drop}
 use Rattle.text.proofs.Slices.{length-from}
 use Rattle.lister.specs.Lister.{fit}
 use Rattle.printing.specs.Printing.{longest}
-use Rattle.clplist.specs.Handing.{Handed}
-use Rattle.clplist.proofs.HandLaws.{print-within, print-used, print-some-used, print-fits}
+use Rattle.clplist.proofs.RunLaws.{print-used, print-some-used, print-fits}
 use borrow.Author.Needs.{needs}
 use Rattle.clplist.proofs.feed.Statement.{statement}
 use Rattle.clplist.proofs.feed.Tie as tie
@@ -37,8 +36,8 @@ print-part-requires c κs = search needs
 add-at : tie.Need-add-at Inv-loop μ-loop
 add-at c = let l = c .before .before .before .before .before .before .before .before .before .before .loop in let a = c .before .before .before .before .before .before .before .before .before .before .before .before .before .before .before .args in let p = c .before .before .before .before .before .print-part in omega (arith, print-used (p .result) (l .state) (l .line) (take (length (a .part .now) - l .at) (drop (l .at) (a .part .now))) (l .text) (p .ensures .0), length-from (a .part .now) (l .at), c .before .before .before .before .before .before .before .before .before .before .before .before .before .before .before .good)
 
-hand-over-requires : tie.Need-hand-over-requires Inv-loop μ-loop
-hand-over-requires c κs = let l = c .before .before .before .before .before .before .before .before .before .before .before .loop in let a = c .before .before .before .before .before .before .before .before .before .before .before .before .before .before .before .before .args in let p = c .before .before .before .before .before .before .print-part in subst (λ (m : ℕ). Handed (p .result .answer) m) (sym (p .kept .1 .1 .1 .0)) (print-within (p .result) (l .state) (l .line) (take (length (a .part .now) - l .at) (drop (l .at) (a .part .now))) (l .text) (p .ensures .0))
+write-answer-requires : tie.Need-write-answer-requires Inv-loop μ-loop
+write-answer-requires c κs = search needs
 
 slice-aggregate-tell : tie.Need-slice-aggregate-tell Inv-loop μ-loop
 slice-aggregate-tell c = search needs
@@ -85,7 +84,7 @@ feed-spec =
     part-print-part-end
     print-part-requires
     add-at
-    hand-over-requires
+    write-answer-requires
     slice-aggregate-tell
     tell-requires
     same-length

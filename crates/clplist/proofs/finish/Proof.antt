@@ -1,13 +1,9 @@
 -- `clplist::finish` meets its contract.
-use mathlib.Core.Path.{sym, subst}
-use Prim.Native.Nat.{ℕ}
+use mathlib.Core.Path.{sym}
 use native.Mathlib.Omega.{arith}
-use lib.ListN.{take}
 use lib.Seq.{length-take-le}
 use Rattle.joiner.specs.Join.{endOf}
-use Rattle.wording.specs.Words.{wordingOf}
-use Rattle.clplist.specs.Handing.{Handed}
-use Rattle.clplist.proofs.HandLaws.{text-within, end-within}
+use Rattle.clplist.proofs.RunLaws.{end-within}
 use borrow.Author.Needs.{needs}
 use Rattle.clplist.proofs.finish.Statement.{statement}
 use Rattle.clplist.proofs.finish.Tie as tie
@@ -33,8 +29,8 @@ slice-aggregate-records-text c = let e = c .before .before .before .before .befo
 records-text-requires : tie.Need-records-text-requires
 records-text-requires c κs = search needs
 
-hand-over-requires : tie.Need-hand-over-requires
-hand-over-requires c κs = let r = c .before .before .before .records-text in subst (λ (m : ℕ). Handed (r .result) m) (sym (r .kept .1 .0)) (text-within (r .result) _ (wordingOf (take (c .before .before .before .before .before .before .before .s .given .0 .0) (c .before .before .before .before .before .before .before .before .before .before .end-answer .last .1 .0))) (r .ensures .0))
+write-answer-requires : tie.Need-write-answer-requires
+write-answer-requires c κs = search needs
 
 slice-aggregate-tell : tie.Need-slice-aggregate-tell
 slice-aggregate-tell c = search needs
@@ -77,7 +73,7 @@ finish-spec =
     array-share-prefix-room
     slice-aggregate-records-text
     records-text-requires
-    hand-over-requires
+    write-answer-requires
     slice-aggregate-tell
     tell-requires
     enum-told-2
