@@ -5,7 +5,6 @@ use mathlib.Core.Path.{_≡_, refl}
 use mathlib.Core.List.{List}
 use mathlib.Core.Bool.{Bool, true, false, cond}
 use lib.ListN.{length, drop, length-append, length-drop}
-use Rattle.text.specs.declared.Answer.the-variants.{Wrote}
 use Rattle.joiner.specs.declared.Joiner.{Joiner}
 use Rattle.joiner.specs.Join.{joinOf}
 use Rattle.joiner.proofs.Laws.{used-within}
@@ -75,13 +74,3 @@ module _ (s : Joiner) (b p out : List ℕ) where
           P .answer .lines ≤ P .answer .used
       go true e = from-few (length p) s b p (length out) (may-fit s b (length out) e)
       go false e = omega arith
-
-  pub part-wrote : (n : ℕ) → partPrint s b p out .answer .answer ≡ Wrote n → n ≤ length out
-  unfolding partPrint printOf
-  part-wrote n = go (mayPrint s b (length out))
-    where
-      go : (w : Bool) → cond w (printedBy (printFrom (length p) s b p (length out)) out) (unprinted s b out) .answer .answer ≡ Wrote n → n ≤ length out
-      go true e =
-          let m : length (printFrom (length p) s b p (length out) .text) ≡ n = cc in
-          omega (arith, m, from-within (length p) s b p (length out) .text)
-      go false e = let z : _≡_ {A = ℕ} 0 1 = cc in absurd (omega arith)

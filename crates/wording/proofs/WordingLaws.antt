@@ -550,13 +550,3 @@ room-refused out (worded t) n p h = go (leb (length t) (length out)) h
     go true h = let z : _≡_ {A = ℕ} 0 1 = cc in absurd (omega arith)
     go false h = refl
 room-refused out (unworded k q) n p h = refl
-
--- what was written has room
-pub wrote-within : (room : ℕ) (u : Worded) (n : ℕ) → answers.Wrote n ≡ textAnswer room u → n ≤ room
-unfolding fitted
-wrote-within room (worded t) n h = go (leb (length t) room) refl h
-  where
-    go : (b : Bool) → leb (length t) room ≡ b → answers.Wrote n ≡ cond b (answers.Wrote (length t)) (answers.Refused 19 0) → n ≤ room
-    go true e q = let m : n ≡ length t = cc in omega (arith, m, leb-true (length t) room e)
-    go false e q = let z : _≡_ {A = ℕ} 0 1 = cc in absurd (omega arith)
-wrote-within room (unworded k p) n h = let z : _≡_ {A = ℕ} 0 1 = cc in absurd (omega arith)
