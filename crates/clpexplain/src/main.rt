@@ -1,6 +1,9 @@
 // Explains a console capture from standard input, for a person: the text of each line is written before the next one is joined. Where reading or writing fails
-// it says so on standard error, with the number of lines explained, and ends.
+// it says so on standard error, with the number of lines explained, and ends. Asked by an argument, it says what it is instead.
+use console::Asked;
 use console::Got;
+use console::asks;
+use console::introduce;
 use console::read_some;
 use console::tell;
 use console::write_answer;
@@ -137,11 +140,39 @@ fn finish(run: Run, text: &mut [u8]) {
     }
 }
 
-fn main() {
+// Explains standard input.
+fn explain_input() {
     let mut line = [0u8; 1024];
     let mut text = io::large_buffer();
     let run = explain_all(&mut line, &mut text);
     if run.open {
         finish(run, &mut text);
+    }
+}
+
+// Says on standard error which arguments there are.
+fn unknown() {
+    io::write_all(
+        STDERR_FILENO,
+        b"clpexplain: it takes --help or --version, or no argument and a capture on standard input\n",
+    );
+}
+
+// Says what the program is for, or which it is.
+fn say(text: &[u8]) {
+    introduce(text, b"clpexplain: writing failed after ");
+}
+
+fn main() {
+    let mut word = [0u8; 16];
+    let n = os::arg(1, &mut word);
+    let asked = asks(os::arg_count(), &word[..n]);
+    match asked {
+        Asked::Work => explain_input(),
+        Asked::Help => say(
+            b"usage: clpexplain [--help | --version] < CAPTURE\n\nExplains a console capture of SM CLP commands to a person: each line, and below it\nwhat its parts are, or a mark under the byte at which it is refused, with the\nrefusal's number, its place and why. Places count bytes of the line from 0.\nWhere reading or writing fails, standard error says so.\n",
+        ),
+        Asked::Version => say(b"clpexplain 0.1.0\n"),
+        Asked::Other => unknown(),
     }
 }

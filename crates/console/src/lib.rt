@@ -1,5 +1,5 @@
-// What the programs over a console capture share: reading what is there, handing over a text, and saying on standard error what failed. What is read and
-// written no contract can speak of.
+// What the programs over a console capture share: what they are asked, reading what is there, handing over a text, and saying on standard error what failed.
+// What is read and written no contract can speak of.
 use libc::EAGAIN;
 use libc::EINTR;
 use libc::EPIPE;
@@ -12,6 +12,7 @@ ghost use mathlib.Core.Path.{_≡_};
 ghost use mathlib.Core.Bool.{true};
 ghost use Prim.Native.Nat.{_≤_};
 ghost use lib.ListN.{length};
+ghost use Rattle.console.specs.Asked.{askedOf};
 ghost use Rattle.console.specs.Bounds.{Held, Told};
 
 // What a read gave: so many bytes at the start of what was lent, the end of the input, or nothing since reading failed.
@@ -19,6 +20,33 @@ pub enum Got {
     Bytes(usize),
     End,
     Failed,
+}
+
+// What a program is asked by its arguments: to do its work, what it is for, which it is, or something that it does not know.
+pub enum Asked {
+    Work,
+    Help,
+    Version,
+    Other,
+}
+
+// What the words ask that a program was started with: how many there are, its own name among them, and the first after that.
+pub fn asks(words: usize, first: &[u8]) -> Asked
+    ensures { λ r. ⌜ r ≡ askedOf words (now (first .entry)) ⌝ }
+{
+    if words <= 1 {
+        return Asked::Work;
+    }
+    if 2 < words {
+        return Asked::Other;
+    }
+    if text::same(first, b"--help") {
+        return Asked::Help;
+    }
+    if text::same(first, b"--version") {
+        return Asked::Version;
+    }
+    Asked::Other
 }
 
 // Waits a millisecond.
@@ -103,6 +131,13 @@ fn write_text(text: &[u8]) -> usize
         }
     }
     done
+}
+
+// Writes what a program says of itself to standard output, or says, in its words, that this failed.
+pub fn introduce(text: &[u8], failed: &[u8]) {
+    if write_text(text) < text.len() {
+        tell(failed, 0);
+    }
 }
 
 // Writes the text at a room's start that an answer tells of: whether all of it was taken. A refusal has none, and neither has an answer that tells of more
