@@ -1,10 +1,11 @@
-/* clp.h: the SM CLP decode option, for C and C++. (Rust declares the same functions in an extern "C" block.)
+/* clp.h: the SM CLP decode option, for C and C++. (bindings/ has the same for Rust and for Python.)
  *
- * The library. `rt staticlib clp` writes target/staticlib/libclp.a, for x86-64 alone (ELF, the System V calling convention, no instructions beyond
- * SSE2). It is written in Rattle and proved: for every input each function below ends, touches no memory but what is lent to it and its own stack, and
- * gives exactly the answer that is described here (what is proved is the source; the compiler behind it is not). From outside it needs memcpy and
- * memset, as C has them, and nothing else. It allocates nothing and keeps nothing between calls: what goes on from one call to the next, the joiner's
- * state and the line buffer, is the caller's. So several threads may call it at once, each with memory of its own.
+ * The library is libsmclp: packaging/library makes it, packaging/install puts it and this header (as smclp/clp.h) in their places. It is there for x86-64
+ * (ELF, the System V calling convention, no instructions beyond SSE2) and for Arm (aarch64). It is written in Rattle and proved: for every input each
+ * function below ends, touches no memory but what is lent to it and its own stack, and gives exactly the answer that is described here (what is proved is
+ * the source; the compiler behind it is not). From outside it needs memcpy and memset, as C has them, and nothing else. It allocates nothing and keeps
+ * nothing between calls: what goes on from one call to the next, the joiner's state and the line buffer, is the caller's. So several threads may call it at
+ * once, each with memory of its own.
  *
  * One convention for all answers. A function answers with a clp_answer, or with a struct that begins like one:
  *     number == 0   the call succeeded, and value is what the function's description says;
