@@ -1,7 +1,7 @@
 //! The two libraries at the same work: seconds of the proved one, seconds of the Rust one.
 
 use crate::timing::seconds_of_both;
-use clp_face as face;
+use smclp::face;
 use clp_reader::{canonical, joiner, reading, tree};
 use std::hint::black_box;
 

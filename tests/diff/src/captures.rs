@@ -2,7 +2,7 @@
 
 use crate::lent::{bytes, Lent};
 use crate::lines::refused;
-use clp_face as face;
+use smclp::face;
 use clp_gen::{capture, Rng};
 use clp_reader::clplist::list_capture;
 use clp_reader::joiner::{end, join, Ended, Joined, State, Step};

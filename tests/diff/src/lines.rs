@@ -1,7 +1,7 @@
 //! Lines: reading, target, terms, canonical writing and the text of records.
 
 use crate::lent::{bytes, size_near};
-use clp_face as face;
+use smclp::face;
 use clp_gen::{damage::damage, line, Rng};
 use clp_reader::canonical::write_canonical;
 use clp_reader::reading::{read, target_part};

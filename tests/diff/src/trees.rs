@@ -2,7 +2,7 @@
 
 use crate::lent::{size_near, Lent};
 use crate::lines::{refused, same_writing};
-use clp_face as face;
+use smclp::face;
 use clp_gen::{tree, Rng};
 use clp_reader::tree::{check_tree, full_path, resolve, Resolved};
 

@@ -1,6 +1,6 @@
 //! DSP0214's own example commands, held to what docs/DIFFERENCES.md says of them: which are refused, with number and place, and that all others are read.
 
-use clp_face as face;
+use smclp::face;
 use clp_reader::reading::read;
 
 const EXAMPLES: &str = include_str!("../../dsp0214-examples.txt");

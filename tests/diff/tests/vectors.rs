@@ -1,6 +1,6 @@
 //! Document 02's cases through the proved library: each line's records and its canonical writing, or its refusal; and what each text to resolve addresses.
 
-use clp_face as face;
+use smclp::face;
 use clp_reader::canonical::write_canonical;
 use clp_vectors::{Addressed, Answer, Case, Refused, REQUEST_A, REQUEST_B, REQUEST_C, ROOM_C, TREE_C};
 
