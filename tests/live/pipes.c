@@ -1,4 +1,4 @@
-/* Runs a lister with its input or its output at a pipe or a socket, and says on standard error where it does not do as it should.
+/* Runs a lister, or clpexplain, with its input or its output at a pipe or a socket, and says on standard error where it does not do as it should.
  *     pipes live PROGRAM             each line's records come while the input is still open
  *     pipes pauses PROGRAM           a non-blocking input with pauses: no line is lost, and the lister sleeps meanwhile
  *     pipes stops PROGRAM            reads that are interrupted: the lister is stopped while it reads, and goes on
@@ -25,6 +25,11 @@
 enum { PATIENCE = 10000 }; /* milliseconds that an event is waited for */
 
 static pid_t child;
+
+/* The text of a line `show`, of `cd`, of a blank one, and of a cut. */
+static struct {
+    const char *show, *cd, *blank, *cut;
+} text = {"verb 10\n", "verb 1\n", "blank\n", "cut\n"};
 
 static void fail(const char *what)
 {
@@ -122,16 +127,16 @@ static long ended(int fd)
 /* What the system says of the lister, from a key on. */
 static const char *known(const char *key)
 {
-    static char text[8192];
+    static char said[8192];
     char name[64];
     snprintf(name, sizeof name, "/proc/%ld/status", (long)child);
     FILE *f = fopen(name, "r");
     if (f == NULL)
         fail("there is no /proc to look at the lister");
-    size_t n = fread(text, 1, sizeof text - 1, f);
+    size_t n = fread(said, 1, sizeof said - 1, f);
     fclose(f);
-    text[n] = 0;
-    const char *at = strstr(text, key);
+    said[n] = 0;
+    const char *at = strstr(said, key);
     return at == NULL ? "" : at + strlen(key);
 }
 
@@ -177,14 +182,15 @@ static void live(const char *program)
     start(program, in[0], out[1]);
     close(out[1]);
     give(in[1], "show\n");
-    expect(out[0], "verb 10\n");
+    expect(out[0], text.show);
     give(in[1], "c");
     give(in[1], "d\r");
-    expect(out[0], "verb 1\n");
+    expect(out[0], text.cd);
     give(in[1], "\nshow\n\nsh");
-    expect(out[0], "verb 10\nblank\n");
+    expect(out[0], text.show);
+    expect(out[0], text.blank);
     close(in[1]);
-    expect(out[0], "cut\n");
+    expect(out[0], text.cut);
     ended(out[0]);
 }
 
@@ -199,10 +205,10 @@ static void pauses(const char *program)
     for (int i = 0; i < 6; i++) {
         nap(50);
         give(in[1], "show\nc");
-        expect(out[0], "verb 10\n");
+        expect(out[0], text.show);
         nap(50);
         give(in[1], "d\n");
-        expect(out[0], "verb 1\n");
+        expect(out[0], text.cd);
     }
     close(in[1]);
     if (ended(out[0]) > 300)
@@ -220,7 +226,7 @@ static void stops(const char *program)
     for (int i = 0; i < 5; i++) {
         interrupt();
         give(in[1], "show\n");
-        expect(out[0], "verb 10\n");
+        expect(out[0], text.show);
     }
     close(in[1]);
     ended(out[0]);
@@ -313,6 +319,12 @@ int main(int count, char **words)
     if (count < 3 || (count > 3 && (capture = open(words[3], O_RDONLY | O_CLOEXEC)) < 0))
         fail("usage: pipes WHAT PROGRAM [CAPTURE]");
     signal(SIGPIPE, SIG_IGN);
+    if (strstr(words[2], "clpexplain") != NULL) {
+        text.show = "show\n  verb show\n";
+        text.cd = "cd\n  verb cd\n";
+        text.blank = "  blank\n";
+        text.cut = "  cut: the capture ends inside a line\n";
+    }
     if (strcmp(words[1], "live") == 0)
         live(words[2]);
     else if (strcmp(words[1], "pauses") == 0)
