@@ -233,6 +233,11 @@ class Texts(unittest.TestCase):
             ['show -l 2 cpu1 A==b'], ['Verb: show', 'show', 's'], ['Option: level', 'level', 'l'], ['Argument: 2', '2'], ['Target: cpu1', 'cpu1'],
             ['Property: A', 'A'], ['Operator: ==', '=='], ['Value: b', 'b']])
 
+    def test_blank_and_cut(self):
+        for capture, name, texts in (
+                (b'\n', 'blank', ['Blank line', 'Blank', 'B']), (b'exi', 'cut', ['Cut line: exi', 'Cut line', 'Cut', 'C']), (b'`', 'cut', ['Cut line', 'Cut', 'C'])):
+            self.assertEqual([one[2:] for one in decoded(capture, [(i, i) for i in range(len(capture))])], [(name, texts)])
+
     def test_refusals(self):
         for number in (*range(1, 15), 20):
             texts = pd.refusal_texts(clp.Refused(number, 1024))

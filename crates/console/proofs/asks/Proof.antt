@@ -11,7 +11,7 @@ returns : tie.Need-returns
 returns c = sym (asked-work _ _ (c .if1 .taken))
 
 returns-2 : tie.Need-returns-2
-returns-2 c = sym (asked-many _ _ (c .before .if1 .left) (c .if2 .taken))
+returns-2 c = sym (asked-many _ _ (c .before .if1 .left) (omega (arith, c .if2 .taken)))
 
 slice-aggregate-same : tie.Need-slice-aggregate-same
 slice-aggregate-same c = search needs
