@@ -12,9 +12,10 @@ package() {
     out=$at/deb
     rm -f "$deb"
     try "package: without dpkg-deb: not said" [ "$(PATH=$at/bare packaging/deb 2>&1 | grep -c 'no command dpkg-deb was found')" = 1 ]
-    try "package: by another, at another time: it is not made" make_deb_of "A B" a@b.example 86400
+    # at a time that is still to come: later ones dpkg-deb sets back by itself
+    try "package: by another, at another time: it is not made" make_deb_of "A B" a@b.example 4102444800
     try "package: by another: not named" is "$(dpkg-deb --field "$deb" Maintainer)" "A B <a@b.example>"
-    try "package: at another time: not its own" is "$(TZ=UTC dpkg-deb --contents "$deb" | awk '{ print $4, $5 }' | sort -u)" "1970-01-02 00:00"
+    try "package: at another time: not its own" is "$(TZ=UTC dpkg-deb --contents "$deb" | awk '{ print $4, $5 }' | sort -u)" "2100-01-01 00:00"
     rm -f "$deb"
     try "package: it is not made" make_deb
     try "package: no $deb" [ -f "$deb" ] || return
