@@ -14,6 +14,7 @@ use Rattle.text.proofs.Tests.{or-in-l, or-in-r, either}
 use Rattle.text.proofs.Scans.{all-on, all-stops, all-past-end, same-length, all-run, run-all}
 use Rattle.text.proofs.Slices.{part-from, length-from, part-between}
 use Rattle.tree.specs.Tree.{parentIn, tagLenIn, tagIn, paddingIn, numberIn, isZero, sameNode, twinIn, twin, isTrue, badForm, badRecord, records, checkFrom, checkTree}
+use Rattle.tree.specs.Marks.{sameSegment}
 use Rattle.tree.specs.declared.Checked.the-variants.{Good, Bad}
 
 -- ---- zeros
@@ -35,34 +36,36 @@ pub cut-byte : (m : ℕ) (r : List ℕ) → 22 ≤ m → (i : ℕ) → i < 22 �
 cut-byte m r h i l = getD-take m r i 0 (omega arith)
 
 module _ (a b : List ℕ) where
-  pub other-parent : (p q : ℕ) → p ≡ parentIn a → q ≡ parentIn b → (p ≡ q → ⊥) → false ≡ sameNode a b
-  unfolding sameNode
-  other-parent p q e f h = sym (simp (ne-eqb (parentIn a) (parentIn b) (λ z. h (e ∙ z ∙ sym f))))
-
-  pub other-number : (p q : ℕ) → p ≡ numberIn a → q ≡ numberIn b → (p ≡ q → ⊥) → false ≡ sameNode a b
-  unfolding sameNode
-  other-number p q e f h = sym (simp (ne-eqb (numberIn a) (numberIn b) (λ z. h (e ∙ z ∙ sym f))) (and-false (eqb (parentIn a) (parentIn b))))
+  pub other-number : (p q : ℕ) → p ≡ numberIn a → q ≡ numberIn b → (p ≡ q → ⊥) → false ≡ sameSegment a b
+  other-number p q e f h = sym (simp (ne-eqb (numberIn a) (numberIn b) (λ z. h (e ∙ z ∙ sym f))))
 
   module _ (h : 22 ≤ length a) (k : 22 ≤ length b) (short : tagLenIn b ≤ 16) where
     pub lengths : (length (tagIn a) ≡ min (tagLenIn a) (length a - 4)) × (length (tagIn b) ≡ min (tagLenIn b) (length b - 4))
     unfolding tagIn
     lengths = (simp (length-take, length-drop), simp (length-take, length-drop))
 
-    pub other-length : (tagLenIn a ≡ tagLenIn b → ⊥) → false ≡ sameNode a b
-    unfolding sameNode
+    pub other-length : (tagLenIn a ≡ tagLenIn b → ⊥) → false ≡ sameSegment a b
     other-length n =
         let l = lengths in
         let d : length (tagIn a) ≡ length (tagIn b) → ⊥ = λ z. n (omega arith) in
-        sym (simp (same-length (tagIn a) (tagIn b) d) (simp (and-false (eqb (numberIn a) (numberIn b))) (and-false (eqb (parentIn a) (parentIn b)))))
+        sym (simp (same-length (tagIn a) (tagIn b) d) (and-false (eqb (numberIn a) (numberIn b))))
 
-  pub by-tags : (p q m n : ℕ) (r : Bool) → p ≡ parentIn a → q ≡ parentIn b → p ≡ q → m ≡ numberIn a → n ≡ numberIn b → m ≡ n → tagLenIn a ≡ tagLenIn b
-      → r ≡ sameBytes (take (4 + tagLenIn a - 4) (drop 4 a)) (take (4 + tagLenIn a - 4) (drop 4 b)) → r ≡ sameNode a b
-  unfolding sameNode tagIn
-  by-tags p q m n r e f g e′ f′ g′ l x =
+  pub by-tags : (m n : ℕ) (r : Bool) → m ≡ numberIn a → n ≡ numberIn b → m ≡ n → tagLenIn a ≡ tagLenIn b
+      → r ≡ sameBytes (take (4 + tagLenIn a - 4) (drop 4 a)) (take (4 + tagLenIn a - 4) (drop 4 b)) → r ≡ sameSegment a b
+  unfolding tagIn
+  by-tags m n r e f g l x =
       x ∙ ap (λ (s : List ℕ). sameBytes s (take (4 + tagLenIn a - 4) (drop 4 b))) (part-between a 4 (tagLenIn a))
       ∙ ap (λ (s : List ℕ). sameBytes (take (tagLenIn a) (drop 4 a)) s) (part-between b 4 (tagLenIn a))
       ∙ ap (λ (w : ℕ). sameBytes (take (tagLenIn a) (drop 4 a)) (take w (drop 4 b))) l
-      ∙ sym (simp (eq-eqb (parentIn a) (parentIn b) (sym e ∙ g ∙ f), eq-eqb (numberIn a) (numberIn b) (sym e′ ∙ g′ ∙ f′)))
+      ∙ sym (simp (eq-eqb (numberIn a) (numberIn b) (sym e ∙ g ∙ f)))
+
+  pub other-parent : (p q : ℕ) → p ≡ parentIn a → q ≡ parentIn b → (p ≡ q → ⊥) → false ≡ sameNode a b
+  unfolding sameNode
+  other-parent p q e f h = sym (simp (ne-eqb (parentIn a) (parentIn b) (λ z. h (e ∙ z ∙ sym f))))
+
+  pub by-segment : (p q : ℕ) (r : Bool) → p ≡ parentIn a → q ≡ parentIn b → p ≡ q → r ≡ sameSegment a b → r ≡ sameNode a b
+  unfolding sameNode
+  by-segment p q r e f g x = x ∙ sym (simp (eq-eqb (parentIn a) (parentIn b) (sym e ∙ g ∙ f)))
 
 -- ---- twins
 

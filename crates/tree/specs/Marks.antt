@@ -1,12 +1,19 @@
 -- Twins as the check finds them: each good record leaves two marks in a table, the same two for the same node. A record that finds one of its marks
--- missing has no twin before it, and is compared with none. proofs/MarkLaws has it that this is the twin test of specs/Tree.
+-- missing has no twin before it, and is compared with none. proofs/MarkLaws has it that this is the twin test of specs/Tree. Where two records are
+-- compared, parents come first (request d).
 use Prim.Native.Nat.{ℕ, _+_, _*_, _/_, _%_, _<_}
 use mathlib.Core.Path.{_≡_}
 use mathlib.Core.List.{List}
-use mathlib.Core.Bool.{Bool, true, false}
+use mathlib.Core.Bool.{Bool, true, false, _&&_}
 use lib.ListN.{length, getD, drop}
+use lib.Dec.{eqb}
+use Rattle.text.specs.Bytes.{sameBytes}
 use Rattle.text.specs.Room.{be16}
-use Rattle.tree.specs.Tree.{parentIn, tagLenIn, numberIn}
+use Rattle.tree.specs.Tree.{parentIn, tagLenIn, tagIn, numberIn}
+
+-- the same number and tag: what is looked at of two records of one parent to tell whether they are the same node
+abbrev pub sameSegment : List ℕ → List ℕ → Bool
+sameSegment a b = eqb (numberIn a) (numberIn b) && sameBytes (tagIn a) (tagIn b)
 
 -- a node's parent, its number, its tag's length, and its tag's first and last letter in one number; odd factors spread it over the table
 abbrev pub mixed : ℕ → ℕ → ℕ → ℕ → ℕ

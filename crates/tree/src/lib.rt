@@ -7,8 +7,8 @@ ghost use lib.ListN.{length, set};
 ghost use lib.Seq.{sets};
 ghost use Rattle.text.specs.Lists.{allOf};
 ghost use Rattle.text.specs.Room.{be16};
-ghost use Rattle.tree.specs.Tree.{isZero, tagLenIn, sameNode, twin, badForm, checkTree, records, recordAt, parent, number};
-ghost use Rattle.tree.specs.Marks.{mixed, mixOf};
+ghost use Rattle.tree.specs.Tree.{isZero, parentIn, tagLenIn, sameNode, twin, badForm, checkTree, records, recordAt, parent, number};
+ghost use Rattle.tree.specs.Marks.{sameSegment, mixed, mixOf};
 ghost use Rattle.tree.specs.Resolve.{taggedIn, namedIn, taggedUnder, namedUnder, starred, inTree, resolvedBy, listBy, resolveOf, resolveList, session′, nodes};
 ghost use Rattle.tree.specs.Steps.{firstOf, kept, verdictOf, alongFrom, instancesAt, Within};
 ghost use Rattle.tree.specs.Path.{segment, pathUp, pathAnswer, pathRoom};
@@ -70,22 +70,31 @@ fn zeros(s: &[u8]) -> bool
     true
 }
 
-// The records that a and b begin with have the same parent, tag and number.
-fn same_node(a: &[u8], b: &[u8]) -> bool
+// The records that a and b begin with have the same number and tag.
+fn same_segment(a: &[u8], b: &[u8]) -> bool
     requires { ⌜ (22 ≤ length (now a)) × (22 ≤ length (now b)) × (tagLenIn (now b) ≤ 16) ⌝ }
-    ensures { λ r. ⌜ r ≡ sameNode (now (a .entry)) (now (b .entry)) ⌝ }
+    ensures { λ r. ⌜ r ≡ sameSegment (now (a .entry)) (now (b .entry)) ⌝ }
 {
-    if text::pair(a[1], a[2]) != text::pair(b[1], b[2]) {
-        return false;
-    }
     if text::pair(a[20], a[21]) != text::pair(b[20], b[21]) {
         return false;
     }
-    if a[3] != b[3] {
+    let n = a[3];
+    if n != b[3] {
         return false;
     }
-    let end = 4 + a[3] as usize;
+    let end = 4 + n as usize;
     text::same(&a[4..end], &b[4..end])
+}
+
+// The records that a and b begin with, b under this parent, are the same node. Parents first: number and tag are looked at only where these agree.
+fn same_node(a: &[u8], b: &[u8], parent: usize) -> bool
+    requires { ⌜ (22 ≤ length (now a)) × (22 ≤ length (now b)) × (tagLenIn (now b) ≤ 16) × (parent ≡ parentIn (now b)) ⌝ }
+    ensures { λ r. ⌜ r ≡ sameNode (now (a .entry)) (now (b .entry)) ⌝ }
+{
+    if text::pair(a[1], a[2]) != parent {
+        return false;
+    }
+    same_segment(a, b)
 }
 
 // Some whole record of e is the same node as r.
@@ -95,10 +104,11 @@ fn twin(e: &[u8], r: &[u8]) -> bool
 {
     let n = count(e);
     let size = node_len();
+    let parent = text::pair(r[1], r[2]);
     let mut j: usize = 0;
     let mut p: usize = 0;
     while j < n {
-        if same_node(&e[p..], r) {
+        if same_node(&e[p..], r, parent) {
             return true;
         }
         p += size;

@@ -2,7 +2,7 @@
 use borrow.Author.Needs.{needs}
 use Rattle.tree.proofs.same_node.Statement.{statement}
 use Rattle.tree.proofs.same_node.Tie as tie
-use Rattle.tree.proofs.CheckLaws.{other-parent, other-number, other-length, by-tags}
+use Rattle.tree.proofs.CheckLaws.{other-parent, by-segment}
 
 shared-slice-read-pair : tie.Need-shared-slice-read-pair
 shared-slice-read-pair c = search needs
@@ -13,80 +13,18 @@ shared-slice-read-pair-2 c = search needs
 pair-requires : tie.Need-pair-requires
 pair-requires c κs = search needs
 
-shared-slice-read-pair-3 : tie.Need-shared-slice-read-pair-3
-shared-slice-read-pair-3 c = search needs
-
-shared-slice-read-pair-4 : tie.Need-shared-slice-read-pair-4
-shared-slice-read-pair-4 c = search needs
-
-pair-requires-2 : tie.Need-pair-requires-2
-pair-requires-2 c κs = search needs
-
 returns : tie.Need-returns
-returns c = search (other-parent, needs)
+returns c =
+    let f = c .before .before .before .before .before .before in
+    other-parent (f .args .a .now) (f .args .b .now) _ _ (c .before .pair .ensures) (f .pre .3) (c .if1 .taken)
 
-shared-slice-read-pair-5 : tie.Need-shared-slice-read-pair-5
-shared-slice-read-pair-5 c = search needs
-
-shared-slice-read-pair-6 : tie.Need-shared-slice-read-pair-6
-shared-slice-read-pair-6 c = search needs
-
-pair-requires-3 : tie.Need-pair-requires-3
-pair-requires-3 c κs = search needs
-
-shared-slice-read-pair-7 : tie.Need-shared-slice-read-pair-7
-shared-slice-read-pair-7 c = search needs
-
-shared-slice-read-pair-8 : tie.Need-shared-slice-read-pair-8
-shared-slice-read-pair-8 c = search needs
-
-pair-requires-4 : tie.Need-pair-requires-4
-pair-requires-4 c κs = search needs
+same-segment-requires : tie.Need-same-segment-requires
+same-segment-requires c κs = search needs
 
 returns-2 : tie.Need-returns-2
-returns-2 c = search (other-number, needs)
-
-shared-slice-read-if3 : tie.Need-shared-slice-read-if3
-shared-slice-read-if3 c = search needs
-
-shared-slice-read-if3-2 : tie.Need-shared-slice-read-if3-2
-shared-slice-read-if3-2 c = search needs
-
-returns-3 : tie.Need-returns-3
-returns-3 c = search (other-length, needs)
-
-shared-slice-read-end : tie.Need-shared-slice-read-end
-shared-slice-read-end c = search needs
-
-cast-end : tie.Need-cast-end
-cast-end c = search needs
-
-add-end : tie.Need-add-end
-add-end c = search needs
-
-sub-same : tie.Need-sub-same
-sub-same c = search needs
-
-part-same-start : tie.Need-part-same-start
-part-same-start c = search needs
-
-part-same-end : tie.Need-part-same-end
-part-same-end c = search needs
-
-sub-same-2 : tie.Need-sub-same-2
-sub-same-2 c = search needs
-
-part-same-start-2 : tie.Need-part-same-start-2
-part-same-start-2 c = search needs
-
-part-same-end-2 : tie.Need-part-same-end-2
-part-same-end-2 c = search needs
-
-same-requires : tie.Need-same-requires
-same-requires c κs = search needs
-
-returns-4 : tie.Need-returns-4
-returns-4 c = search (by-tags, needs)
+returns-2 c =
+    let f = c .before .before .before .before .before .before .before in
+    by-segment (f .args .a .now) (f .args .b .now) _ _ _ (c .before .before .pair .ensures) (f .pre .3) (c .before .if1 .left) (c .same-segment .ensures)
 
 pub same-node-spec : {M : Type 1} → statement M
 same-node-spec =
@@ -95,28 +33,6 @@ same-node-spec =
     shared-slice-read-pair
     shared-slice-read-pair-2
     pair-requires
-    shared-slice-read-pair-3
-    shared-slice-read-pair-4
-    pair-requires-2
     returns
-    shared-slice-read-pair-5
-    shared-slice-read-pair-6
-    pair-requires-3
-    shared-slice-read-pair-7
-    shared-slice-read-pair-8
-    pair-requires-4
-    returns-2
-    shared-slice-read-if3
-    shared-slice-read-if3-2
-    returns-3
-    shared-slice-read-end
-    cast-end
-    add-end
-    sub-same
-    part-same-start
-    part-same-end
-    sub-same-2
-    part-same-start-2
-    part-same-end-2
-    same-requires
-    returns-4)
+    same-segment-requires
+    returns-2)
