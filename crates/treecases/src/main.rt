@@ -142,7 +142,7 @@ fn groups(input: &[u8]) {
 }
 
 fn main() {
-    let mut all = [0u8; 131072];
+    let mut all = [0u8; 262144];
     let got = io::read_full(0, &mut all);
     groups(&all[..got]);
 }

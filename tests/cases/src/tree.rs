@@ -2,8 +2,13 @@
 //! of the cases, two bytes each, high first, then the tree, then the cases. A case is a kind, two
 //! numbers and the length of a text, the numbers and the length in two bytes, then the text.
 
+use clp_vectors::{Asked, REQUEST_D};
+
 const LETTERS: &str = "abcdefghijklmnop";
 const MOST_RECORDS: usize = 512;
+
+/// The most bytes of an input that `treecases` reads.
+const MOST_BYTES: usize = 262_144;
 
 /// A node's record, good or bad, before it is bytes.
 #[derive(Clone, Copy)]
@@ -126,6 +131,9 @@ pub fn input() -> Vec<u8> {
     put_deepest(&mut input);
     put_widest(&mut input);
     put_starred(&mut input);
+    put_request_d(&mut input);
+    put_crowds(&mut input);
+    assert!(input.len() <= MOST_BYTES, "{} bytes", input.len());
     input
 }
 
@@ -429,4 +437,51 @@ fn put_starred(input: &mut Vec<u8>) {
     cases.resolve(1, 85, "leaf*");
     cases.resolve(1, 84, "leaf*");
     put_group(input, &tree_bytes(&nodes), cases);
+}
+
+/// Request d's trees, and what its cases resolve in them.
+fn put_request_d(input: &mut Vec<u8>) {
+    for case in REQUEST_D.cases(5) {
+        let mut cases = Cases::default();
+        if let Asked::Resolve(asked, _) = case.asked() {
+            cases.put(2, asked.default_target, asked.room, &asked.text);
+        }
+        put_group(input, &case.tree(1), cases);
+    }
+}
+
+/// Records of one parent and one number whose tags have 16 letters and differ in the 14th and 15th alone.
+fn crowd(count: usize) -> Vec<Node> {
+    let letters: Vec<char> = ('a'..='z').collect();
+    (0..count)
+        .map(|step| {
+            let (high, low) = (letters[step / 26], letters[step % 26]);
+            Node::new(0, &format!("{}{high}{low}p", &LETTERS[..13]), 1)
+        })
+        .collect()
+}
+
+/// 512 of them; then with the last one a twin of the first, of one in the middle and of the one before
+/// it, and the first one's twin but for its parent, and but for its number.
+fn put_crowds(input: &mut Vec<u8>) {
+    let all = crowd(MOST_RECORDS);
+    let (last, others) = all.split_last().expect("512 records");
+    let first = others[0];
+    let under_another = Node { parent: 1, ..first };
+    let of_another_number = Node { number: 2, ..first };
+    for last in [*last, first, others[255], others[510], under_another, of_another_number] {
+        put_crowd(input, &[others, &[last]].concat());
+    }
+}
+
+/// The last one's full path, and what the first one's segment addresses, with a star too.
+fn put_crowd(input: &mut Vec<u8>, nodes: &[Node]) {
+    let segment = nodes[0].segment();
+    let starred = segment.replace('1', "*");
+    let mut cases = Cases::default();
+    cases.path(nodes.len(), 40);
+    cases.resolve(0, 2, &segment);
+    cases.resolve(0, 2, &format!("/{starred}"));
+    cases.resolve(1, 2, &segment);
+    put_group(input, &tree_bytes(nodes), cases);
 }

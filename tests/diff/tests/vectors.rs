@@ -1,8 +1,9 @@
-//! Document 02's cases through the proved library: each line's records and its canonical writing, or its refusal; and what each text to resolve addresses.
+//! Document 02's cases through the proved library: each line's records and its canonical writing, or its refusal; what each text to resolve addresses; and what is said of each tree.
 
 use smclp::face;
 use clp_reader::canonical::write_canonical;
-use clp_vectors::{Addressed, Answer, Case, Refused, REQUEST_A, REQUEST_B, REQUEST_C, ROOM_C, TREE_C};
+use clp_vectors::{Addressed, Answer, Asked, Case, Checked, Refused, ToResolve};
+use clp_vectors::{REQUEST_A, REQUEST_B, REQUEST_C, REQUEST_D, ROOM_C, TREE_C};
 
 /// What a call writes at the start of lent room, in the terms of the cases; the rest of the room stays as it was.
 fn answer(size: usize, call: impl Fn(&mut [u8]) -> face::Answer) -> Answer {
@@ -62,15 +63,40 @@ fn lines_and_texts_of_request_c() {
         let input = case.bytes(1);
         match case.word(0, &["line", "text"]) {
             "line" => check_line(case, &input, case.reading(2)),
-            _ => assert_eq!(addressed(&input), case.addressed(2), "{}: {}", case.at, input.escape_ascii()),
+            _ => {
+                let asked = ToResolve { text: input, default_target: 0, room: ROOM_C };
+                assert_eq!(addressed(&asked, TREE_C), case.addressed(2), "{}: {}", case.at, asked.text.escape_ascii());
+            }
         }
     }
 }
 
-/// What a text addresses in the tree of the cases, in their terms.
-fn addressed(text: &[u8]) -> Addressed {
-    let mut list = vec![0xaaaa; ROOM_C];
-    let face::Answer { number, value } = face::resolve(text, TREE_C, 0, &mut list);
+#[test]
+fn trees_of_request_d() {
+    for case in &REQUEST_D.cases(5) {
+        let tree = case.tree(1);
+        match case.asked() {
+            Asked::Check(expected) => assert_eq!(checked(&tree), expected, "{}", case.at),
+            Asked::Resolve(asked, expected) => assert_eq!(addressed(&asked, &tree), expected, "{}", case.at),
+        }
+    }
+}
+
+/// What a tree's check answers, in the terms of the cases.
+fn checked(tree: &[u8]) -> Checked {
+    match face::check_tree(tree) {
+        face::Answer { number: 0, value } => {
+            assert_eq!(value, 0);
+            Ok(())
+        }
+        face::Answer { number, value } => Err(refused(number, value)),
+    }
+}
+
+/// What a text addresses in a tree, in the terms of the cases.
+fn addressed(asked: &ToResolve, tree: &[u8]) -> Addressed {
+    let mut list = vec![0xaaaa; asked.room];
+    let face::Answer { number, value } = face::resolve(&asked.text, tree, asked.default_target, &mut list);
     let count = if number == 0 && value != face::NONE { value as usize } else { 0 };
     assert!(list[count..].iter().all(|&number| number == 0xaaaa));
     list.truncate(count);

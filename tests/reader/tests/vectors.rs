@@ -1,13 +1,13 @@
 //! Each line of document 02's cases: its reading, its canonical writing, and which lines are one
-//! command; and each text to resolve.
+//! command; each text to resolve; and each tree.
 
 use clp_reader::canonical::write_canonical;
 use clp_reader::reading::read;
 use clp_reader::refusal::Refusal;
 use clp_reader::same::same_command;
-use clp_reader::tree::{resolve, Resolved};
-use clp_vectors::{Addressed, Answer, Case, Refused};
-use clp_vectors::{REQUEST_A, REQUEST_B, REQUEST_C, ROOM_C, TREE_C};
+use clp_reader::tree::{check_tree, resolve, Resolved};
+use clp_vectors::{Addressed, Answer, Asked, Case, Checked, Refused, ToResolve};
+use clp_vectors::{REQUEST_A, REQUEST_B, REQUEST_C, REQUEST_D, ROOM_C, TREE_C};
 
 /// What a call writes at the start of lent room, in the terms of the cases.
 fn answer(call: impl Fn(&mut [u8]) -> Result<usize, Refusal>) -> Answer {
@@ -70,7 +70,8 @@ fn lines_and_texts_of_request_c() {
                 met[0] += 1;
             }
             _ => {
-                assert_eq!(addressed(&input), case.addressed(2), "{}", case.at);
+                let asked = ToResolve { text: input, default_target: 0, room: ROOM_C };
+                assert_eq!(addressed(&asked, TREE_C), case.addressed(2), "{}", case.at);
                 met[1] += 1;
             }
         }
@@ -78,10 +79,40 @@ fn lines_and_texts_of_request_c() {
     assert_eq!(met, [213, 22]);
 }
 
-/// What a text addresses in the tree of the cases, in their terms.
-fn addressed(text: &[u8]) -> Addressed {
-    let mut list = [0xaaaa; ROOM_C];
-    let answer = resolve(text, TREE_C, 0, &mut list);
+#[test]
+fn trees_of_request_d() {
+    let mut met = [0; 2];
+    for case in &REQUEST_D.cases(5) {
+        let tree = case.tree(1);
+        match case.asked() {
+            Asked::Check(expected) => {
+                assert_eq!(checked(&tree), expected, "{}", case.at);
+                met[0] += 1;
+            }
+            Asked::Resolve(asked, expected) => {
+                assert_eq!(addressed(&asked, &tree), expected, "{}", case.at);
+                met[1] += 1;
+            }
+        }
+    }
+    assert_eq!(met, [43, 8]);
+}
+
+/// What a tree's check answers, in the terms of the cases.
+fn checked(tree: &[u8]) -> Checked {
+    match check_tree(tree) {
+        Ok(count) => {
+            assert_eq!(22 * count, tree.len());
+            Ok(())
+        }
+        Err(refusal) => Err(refused(refusal)),
+    }
+}
+
+/// What a text addresses in a tree, in the terms of the cases.
+fn addressed(asked: &ToResolve, tree: &[u8]) -> Addressed {
+    let mut list = vec![0xaaaa; asked.room];
+    let answer = resolve(&asked.text, tree, asked.default_target, &mut list);
     let count = match answer {
         Ok(Resolved::Nodes(count)) => count,
         _ => 0,
@@ -89,7 +120,10 @@ fn addressed(text: &[u8]) -> Addressed {
     assert!(list[count..].iter().all(|&number| number == 0xaaaa));
     match answer {
         Ok(Resolved::Session) => Ok(None),
-        Ok(Resolved::Nodes(_)) => Ok(Some(list[..count].to_vec())),
+        Ok(Resolved::Nodes(_)) => {
+            list.truncate(count);
+            Ok(Some(list))
+        }
         Err(refusal) => Err(refused(refusal)),
     }
 }

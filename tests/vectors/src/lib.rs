@@ -8,6 +8,12 @@
 
 #![forbid(unsafe_code)]
 
+mod tree;
+
+use std::fmt::Debug;
+
+pub use tree::{Asked, Checked, ToResolve};
+
 /// A file of cases, and how many it has.
 pub struct Vectors {
     pub name: &'static str,
@@ -39,6 +45,14 @@ pub const REQUEST_C: Vectors = Vectors {
 /// The tree in which request c's texts are resolved, `node 0 a 1`, from its root and with this room.
 pub const TREE_C: &[u8; 22] = b"\x10\0\0\x01a\0\0\0\0\0\0\0\0\0\0\0\0\0\0\0\0\x01";
 pub const ROOM_C: usize = 9;
+
+/// Document 02, request d: what is asked, a check or a text to resolve; the tree; the arguments; the
+/// answer; the tree after, of which there is none here.
+pub const REQUEST_D: Vectors = Vectors {
+    name: "02-d.tsv",
+    text: include_str!("../02-d.tsv"),
+    count: 51,
+};
 
 /// The cases that a later request changed: which case, its line, the request, the reading since
 /// then. Each is refused now, and a refused line's writing is that refusal.
@@ -122,7 +136,7 @@ impl Case {
 
     /// The cell as what a text addresses.
     pub fn addressed(&self, column: usize) -> Addressed {
-        self.cell(column, |cell| or_refused(cell, addressed_of))
+        self.since(self.cell(column, |cell| or_refused(cell, addressed_of)))
     }
 
     /// The cell as a reading, in the bytes of its records.
@@ -136,7 +150,7 @@ impl Case {
     }
 
     /// The answer since the last request, from what the file has; a change that changes nothing stops the test.
-    fn since(&self, answer: Answer) -> Answer {
+    fn since<T: Debug + PartialEq>(&self, answer: Result<T, Refused>) -> Result<T, Refused> {
         let Some(refused) = self.since else {
             return answer;
         };
@@ -212,15 +226,21 @@ fn record_of(text: &str) -> Option<Vec<u8>> {
     words.next().is_none().then_some(record)
 }
 
-/// Pieces of bytes joined by ` + `.
+/// Pieces of bytes joined by ` + `, and nothing else.
 fn bytes_of(cell: &str) -> Option<Vec<u8>> {
-    let (mut bytes, mut rest) = piece_of(cell.as_bytes())?;
-    while !rest.is_empty() {
-        let (piece, after) = piece_of(rest.strip_prefix(b" + ")?)?;
+    let (bytes, rest) = pieces_of(cell.as_bytes())?;
+    rest.is_empty().then_some(bytes)
+}
+
+/// The pieces that `text` begins with, joined by ` + `, and what follows them.
+fn pieces_of(text: &[u8]) -> Option<(Vec<u8>, &[u8])> {
+    let (mut bytes, mut rest) = piece_of(text)?;
+    while let Some(next) = rest.strip_prefix(b" + ") {
+        let (piece, after) = piece_of(next)?;
         bytes.extend(piece);
         rest = after;
     }
-    Some(bytes)
+    Some((bytes, rest))
 }
 
 /// The piece that `text` begins with, such as `b'a'` or `b'a'*65`, and what follows it.
@@ -419,7 +439,7 @@ mod tests {
 
     #[test]
     fn changes_are_of_cases_in_files_of_earlier_requests() {
-        let files = [REQUEST_A, REQUEST_B, REQUEST_C].map(|file| file.name);
+        let files = [REQUEST_A, REQUEST_B, REQUEST_C, REQUEST_D].map(|file| file.name);
         for change in CHANGED.rows(4) {
             let (file, _) = change.cells[0].split_once(':').expect("a file and a line");
             assert!(files.contains(&file), "{}: no such file: {file}", change.at);
@@ -457,6 +477,16 @@ mod tests {
             let said = changed(change).expect_err(change);
             assert!(said.contains(expected), "{change:?}: {said}");
         }
+    }
+
+    #[test]
+    fn a_change_of_what_is_said_of_a_tree_holds_too() {
+        let text = "# what\tanswer\ncheck\tgood\nresolve\tnodes 0\n";
+        let changes = "#\t\t\t\nx:2\tcheck\tf\trefusal 15 at 22\nx:3\tresolve\tf\trefusal 16 at 0\n";
+        let changed = Vectors { name: "changed", text: changes, count: 2 };
+        let cases = Vectors { name: "x", text, count: 2 }.cases_since(2, &changed);
+        assert_eq!(cases[0].checked(1), Err(Refused { number: 15, place: 22 }));
+        assert_eq!(cases[1].addressed(1), Err(Refused { number: 16, place: 0 }));
     }
 
     #[test]
