@@ -495,6 +495,32 @@ static void on_good_tree(const uint8_t *bytes, size_t n, size_t node, size_t roo
     on_tree(tree, nodes * CLP_NODE_BYTES, bytes + 2 * nodes, n - 2 * nodes, node, room_len);
 }
 
+enum { MOST_CROWDED = 64 };
+
+/* A crowded tree, good by its making: few parents and numbers from the input, and tags of 16 letters that share their ends and differ in a pair between
+ * alone. Then with an earlier record once more as its last, which is refused there. Each record is compared with all before it: they are few. */
+static void on_crowded_tree(const uint8_t *bytes, size_t n, size_t node, size_t room_len)
+{
+    static uint8_t tree[MOST_CROWDED * CLP_NODE_BYTES];
+    size_t i, nodes = smaller(n / 2, MOST_CROWDED), length = nodes * CLP_NODE_BYTES, pair = 5 + room_len % 13;
+    memset(tree, 0, sizeof tree);
+    for (i = 0; i < nodes; i++) {
+        uint8_t *r = tree + i * CLP_NODE_BYTES;
+        r[0] = CLP_KIND_NODE;
+        r[2] = (uint8_t)smaller(bytes[2 * i] % 3, i);
+        r[3] = 16;
+        memset(r + 4, 'n', 16);
+        r[pair] = (uint8_t)('a' + i / 26);
+        r[pair + 1] = (uint8_t)('A' + i % 26);
+        r[21] = (uint8_t)(1 + bytes[2 * i + 1] % 3);
+    }
+    check(is(clp_check_tree(lend_copy(&text, tree, length), length), 0, 0));
+    if (nodes < 2)
+        return;
+    memcpy(tree + length - CLP_NODE_BYTES, tree + node % (nodes - 1) * CLP_NODE_BYTES, CLP_NODE_BYTES);
+    check(is(clp_check_tree(lend_copy(&text, tree, length), length), CLP_REFUSED_TREE, length - CLP_NODE_BYTES));
+}
+
 int LLVMFuzzerTestOneInput(const uint8_t *data, size_t size)
 {
     static const uint16_t lengths[] = {CLP_LINE_BYTES, CLP_LINE_BYTES, CLP_LINE_BYTES, 0, 1, CLP_LINE_BYTES - 1, CLP_LINE_BYTES + 1, 4096};
@@ -518,5 +544,6 @@ int LLVMFuzzerTestOneInput(const uint8_t *data, size_t size)
     on_records(data, size, room_len);
     on_tree(data, split, data + split, size - split, node, room_len);
     on_good_tree(data, size, node, room_len);
+    on_crowded_tree(data, size, node, room_len);
     return 0;
 }

@@ -8,6 +8,7 @@
 pub mod almost;
 pub mod beginnings;
 pub mod capture;
+pub mod crowded;
 pub mod damage;
 pub mod excluded;
 pub mod form;

@@ -1,5 +1,8 @@
 //! Trees as house records, paths into them, and default targets.
 
+pub use crate::crowded::crowded_tree;
+
+use crate::crowded::crowded;
 use crate::damage::damage;
 use crate::line::loose_target;
 use crate::rng::Rng;
@@ -44,7 +47,7 @@ pub struct Tree {
     pub is_intact: bool,
 }
 
-/// One tree: intact, damaged, or noise; mostly small, some around 512 records.
+/// One tree: intact, damaged, crowded, or noise; mostly small, some around 512 records.
 pub fn tree(rng: &mut Rng) -> Tree {
     let count = match rng.below(20) {
         0..=14 => rng.below(13),
@@ -52,8 +55,9 @@ pub fn tree(rng: &mut Rng) -> Tree {
         _ => rng.between(505, 520),
     };
     match rng.below(10) {
-        0..=5 => intact_tree(rng, count),
-        6..=8 => damaged_tree(rng, count),
+        0..=4 => intact_tree(rng, count),
+        5..=7 => damaged_tree(rng, count),
+        8 => crowded(rng, count).tree,
         _ => noise_tree(rng),
     }
 }

@@ -2,8 +2,10 @@
 
 mod common;
 
+use std::collections::{BTreeMap, BTreeSet};
 use std::ops::Range;
 
+use clp_gen::crowded::{crowded, crowded_tree, Crowded, Difference, Pair, DIFFERENCES};
 use clp_gen::excluded::{excluded, excluded_line, Excluded};
 use clp_gen::options::{excluded_by, is_excluded, options_of, VERBS};
 use clp_gen::shout::NEXT_TO_LETTERS;
@@ -743,16 +745,132 @@ fn children_called(tree: &tree::Tree, parent: u16, segment: &str) -> Vec<u16> {
 #[test]
 fn a_tree_check_agrees_with_a_plain_one() {
     let mut rng = Rng::new(10);
+    let mut met = [0; 2];
     for _ in 0..3000 {
         let tree = tree::tree(&mut rng);
-        let expected = match first_bad_record(&tree.bytes) {
-            Some(index) => Err((15, index * 22)),
-            None => Ok(tree.bytes.len() / 22),
-        };
-        let answer = check_tree(&tree.bytes);
-        let answer = answer.map_err(|refusal| (refusal.number, usize::from(refusal.place)));
-        assert_eq!(answer, expected);
+        let bad = first_bad_record(&tree.bytes);
+        check_finds(bad, &tree.bytes);
+        if crowds_of(&tree.bytes).iter().any(|crowd| crowd.len() > 1) {
+            met[0] += usize::from(bad.is_none());
+            met[1] += usize::from(bad.is_some_and(|index| is_twin(&tree.bytes, index)));
+        }
     }
+    println!("crowded: good, with a twin {met:?}");
+    assert!(met.iter().all(|&count| count > 75), "{met:?}");
+}
+
+/// The check refuses the record of this index, or none.
+fn check_finds(bad: Option<usize>, bytes: &[u8]) {
+    let expected = match bad {
+        Some(index) => Err((15, index * 22)),
+        None => Ok(bytes.len() / 22),
+    };
+    let answer = check_tree(bytes);
+    let answer = answer.map_err(|refusal| (refusal.number, usize::from(refusal.place)));
+    assert_eq!(answer, expected);
+}
+
+/// Whether the record of this index is the same as an earlier one.
+fn is_twin(bytes: &[u8], index: usize) -> bool {
+    let all: Vec<&[u8]> = bytes.chunks(22).collect();
+    all[..index].contains(&all[index])
+}
+
+/// The tags of records that share parent, number, the tag's length and its two ends.
+fn crowds_of(bytes: &[u8]) -> Vec<BTreeSet<&[u8]>> {
+    let mut crowds: BTreeMap<[u8; 7], BTreeSet<&[u8]>> = BTreeMap::new();
+    for record in bytes.chunks_exact(22) {
+        let length = usize::from(record[3]);
+        if let Some(tag) = record[4..20].get(..length).filter(|tag| !tag.is_empty()) {
+            let shared = [record[1], record[2], record[3], tag[0], tag[length - 1], record[20], record[21]];
+            crowds.entry(shared).or_default().insert(tag);
+        }
+    }
+    crowds.into_values().collect()
+}
+
+#[test]
+fn tags_of_a_crowded_tree_differ_in_few_places() {
+    let mut rng = Rng::new(24);
+    let (mut early, mut late, mut lengths) = (0, 0, BTreeSet::new());
+    for count in (0..200).chain([505, 512, 520]) {
+        let made = crowded_tree(&mut rng, count);
+        assert!(made.is_intact);
+        assert_eq!((made.nodes.len(), &made.bytes), (count, &tree::bytes_of(&made.nodes)));
+        let Some(first) = made.nodes.first() else {
+            continue;
+        };
+        let length = first.tag.len();
+        let mut places = BTreeSet::new();
+        for node in &made.nodes {
+            assert_eq!(node.tag.len(), length);
+            places.extend((0..length).filter(|&at| node.tag[at] != first.tag[at]));
+        }
+        let is_early = places.is_subset(&[1, 2, 3].into());
+        let is_late = places.is_subset(&[length - 4, length - 3, length - 2].into());
+        assert!(is_early || is_late, "{places:?} of {length}");
+        // Of so many records nearly all must be compared.
+        let crowds = crowds_of(&made.bytes);
+        assert!(crowds.len() <= 16 && crowds.iter().map(BTreeSet::len).sum::<usize>() == count);
+        lengths.insert(length);
+        early += usize::from(!is_late);
+        late += usize::from(!is_early);
+    }
+    assert_eq!(lengths, (8..=16).collect());
+    assert!(early > 50 && late > 50, "{early} {late}");
+}
+
+#[test]
+fn a_crowded_tree_is_good_but_for_the_twin_made_in_it() {
+    let mut rng = Rng::new(25);
+    let mut met = [0; 6];
+    for _ in 0..2000 {
+        let count = match rng.below(20) {
+            0..=14 => rng.below(13),
+            15..=17 => rng.below(70),
+            _ => rng.between(505, 520),
+        };
+        let Crowded { tree: made, pair } = crowded(&mut rng, count);
+        let twin = pair.filter(|pair| pair.difference.is_none()).map(|pair| pair.later);
+        assert_eq!(made.is_intact, twin.is_none());
+        let too_many = (made.nodes.len() > 512).then_some(512);
+        let bad = twin.into_iter().chain(too_many).min();
+        assert_eq!(first_bad_record(&made.bytes), bad);
+        check_finds(bad, &made.bytes);
+        let Some(pair) = pair else {
+            met[0] += 1;
+            continue;
+        };
+        assert_eq!(differences(&made.bytes, &pair), Vec::from_iter(pair.difference));
+        let which = DIFFERENCES.iter().position(|&one| pair.difference == Some(one));
+        met[which.map_or(1, |which| 2 + which)] += 1;
+    }
+    println!("crowded: as made, with a twin, by what differs {met:?}");
+    assert!(met.iter().all(|&count| count > 80), "{met:?}");
+    assert!((800..1200).contains(&met[1]), "{met:?}");
+}
+
+/// In what the later record differs from the earlier; tags that differ otherwise stop the test.
+fn differences(bytes: &[u8], pair: &Pair) -> Vec<Difference> {
+    assert!(pair.earlier < pair.later);
+    let record = |index: usize| &bytes[22 * index..][..22];
+    let (left, right) = (record(pair.earlier), record(pair.later));
+    let tag = |record: &[u8]| record[4..][..usize::from(record[3])].to_vec();
+    let (one, other) = (tag(left), tag(right));
+    let mut found = Vec::new();
+    found.extend((left[1..3] != right[1..3]).then_some(Difference::Parent));
+    found.extend((left[20..] != right[20..]).then_some(Difference::Number));
+    if one.eq_ignore_ascii_case(&other) {
+        let letters = one.iter().zip(&other).filter(|(a, b)| a != b).count();
+        assert!(letters <= 1, "{letters} letters");
+        found.extend((letters == 1).then_some(Difference::Case));
+    } else {
+        let (long, short) = if one.len() > other.len() { (one, other) } else { (other, one) };
+        let without = |at| [&long[..at], &long[at + 1..]].concat();
+        assert!((1..long.len() - 1).any(|at| without(at) == short));
+        found.push(Difference::Length);
+    }
+    found
 }
 
 /// The index of the first bad record, every record compared with all earlier ones.
