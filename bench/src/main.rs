@@ -1,9 +1,14 @@
 //! The proved library beside the independent reader: the same work on the same input in one run, as a table with ratios.
 //!
 //! clp_bench CLPLIST CLPLIST_RS: the two listers' programs, which are timed end to end.
+//! clp_bench trees: what the check of a tree reads as it compares records, and its times, alone.
 
+mod counted;
 mod input;
+mod plain;
+mod shapes;
 mod timing;
+mod touched;
 mod work;
 
 use clp_gen::Rng;
@@ -13,6 +18,10 @@ use timing::{seconds_of_both, Row};
 const MEGA: usize = 1 << 20;
 
 fn main() {
+    let programs: Vec<String> = std::env::args().skip(1).collect();
+    if programs == ["trees"] {
+        return touched::show();
+    }
     let (mut rng, mut loud, mut barred, mut near) = (Rng::new(1), Rng::new(2), Rng::new(3), Rng::new(4));
     println!("best of several runs, proved and Rust in turns; the buffers are warm and not cleared between runs");
     Row::heading();
@@ -36,7 +45,6 @@ fn main() {
     }
     let (tree, path) = input::deep_tree();
     Row::new("resolve 16 segments", tree.len() / 22, "nodes", work::resolves(&tree, &path)).show();
-    let programs: Vec<String> = std::env::args().skip(1).collect();
     if let [ours, theirs] = &programs[..] {
         for size in [1 << 16, MEGA, 16 * MEGA, 100 * MEGA] {
             let capture = input::mixed(&mut rng, size);
@@ -51,4 +59,5 @@ fn main() {
             std::fs::remove_file(&file).expect("the capture is there");
         }
     }
+    touched::show();
 }

@@ -78,12 +78,7 @@ pub fn crowded_tree(rng: &mut Rng, count: usize) -> Tree {
             nodes.push(node);
         }
     }
-    let bytes = bytes_of(&nodes);
-    Tree {
-        nodes,
-        bytes,
-        is_intact: true,
-    }
+    Tree::of(nodes)
 }
 
 fn letter(rng: &mut Rng) -> u8 {

@@ -47,6 +47,18 @@ pub struct Tree {
     pub is_intact: bool,
 }
 
+impl Tree {
+    /// The nodes as they are.
+    pub fn of(nodes: Vec<Node>) -> Tree {
+        let bytes = bytes_of(&nodes);
+        Tree {
+            nodes,
+            bytes,
+            is_intact: true,
+        }
+    }
+}
+
 /// One tree: intact, damaged, crowded, or noise; mostly small, some around 512 records.
 pub fn tree(rng: &mut Rng) -> Tree {
     let count = match rng.below(20) {
@@ -89,12 +101,7 @@ pub fn intact_tree(rng: &mut Rng, count: usize) -> Tree {
         }
         nodes.push(node);
     }
-    let bytes = bytes_of(&nodes);
-    Tree {
-        nodes,
-        bytes,
-        is_intact: true,
-    }
+    Tree::of(nodes)
 }
 
 /// The nodes as house records of kind 16.
