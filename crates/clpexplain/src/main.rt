@@ -3,10 +3,10 @@
 use console::Asked;
 use console::Got;
 use console::asks;
-use console::introduce;
 use console::read_some;
 use console::tell;
 use console::write_answer;
+use console::write_text;
 use explaining::explain;
 use explaining::explain_cut;
 use explaining::explain_refusal;
@@ -160,7 +160,9 @@ fn unknown() {
 
 // Says what the program is for, or which it is.
 fn say(text: &[u8]) {
-    introduce(text, b"clpexplain: writing failed after ");
+    if write_text(text) < text.len() {
+        tell(b"clpexplain: writing failed after ", 0);
+    }
 }
 
 fn main() {

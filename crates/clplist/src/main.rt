@@ -3,10 +3,10 @@
 use console::Asked;
 use console::Got;
 use console::asks;
-use console::introduce;
 use console::read_some;
 use console::tell;
 use console::write_answer;
+use console::write_text;
 use joiner::Joiner;
 use libc::STDERR_FILENO;
 use lister::Stands;
@@ -138,7 +138,9 @@ fn unknown() {
 
 // Says what the program is for, or which it is.
 fn say(text: &[u8]) {
-    introduce(text, b"clplist: writing failed after ");
+    if write_text(text) < text.len() {
+        tell(b"clplist: writing failed after ", 0);
+    }
 }
 
 fn main() {

@@ -108,7 +108,7 @@ pub fn read_some(bytes: &mut [u8]) -> Got
 }
 
 // Writes a text to standard output: how many of its bytes were taken, fewer than all where writing failed.
-fn write_text(text: &[u8]) -> usize
+pub fn write_text(text: &[u8]) -> usize
     ensures { λ r. ⌜ r ≤ length (now (text .entry)) ⌝ }
 {
     let mut done: usize = 0;
@@ -131,13 +131,6 @@ fn write_text(text: &[u8]) -> usize
         }
     }
     done
-}
-
-// Writes what a program says of itself to standard output, or says, in its words, that this failed.
-pub fn introduce(text: &[u8], failed: &[u8]) {
-    if write_text(text) < text.len() {
-        tell(failed, 0);
-    }
 }
 
 // Writes the text at a room's start that an answer tells of: whether all of it was taken. A refusal has none, and neither has an answer that tells of more
