@@ -47,6 +47,8 @@ fn function(source: &str, name: &str) -> String {
     let told = TOLD.iter().find(|(told, _)| *told == name).map_or("", |(_, what)| what);
     let is_contract = |line: &&str| line.starts_with("    requires {") || line.starts_with("    ensures {");
     let text = piece(source, &begin);
-    let body: Vec<&str> = text.lines().filter(|line| !is_contract(line)).collect();
-    body.join("\n").replace("[u8]", "Bytes").replacen("\n{\n", &format!("\n{{\n{told}\n"), 1) + "\n"
+    let (contract, code): (Vec<&str>, Vec<&str>) = text.lines().partition(is_contract);
+    let code = code.join("\n").replace("[u8]", "Bytes");
+    assert!(!contract.is_empty() && code.contains("\n{\n"), "{name}: a contract, and then a brace on a line of its own");
+    code.replacen("\n{\n", &format!("\n{{\n{told}\n"), 1) + "\n"
 }

@@ -498,7 +498,7 @@ static void on_good_tree(const uint8_t *bytes, size_t n, size_t node, size_t roo
 enum { MOST_CROWDED = 64 };
 
 /* A crowded tree, good by its making: few parents and numbers from the input, and tags of 16 letters that share their ends and differ in a pair between
- * alone. Then with an earlier record once more as its last, which is refused there. Each record is compared with all before it: they are few. */
+ * alone. Then with an earlier record once more as its last, which is refused there. Nearly each record is compared with all before it: they are few. */
 static void on_crowded_tree(const uint8_t *bytes, size_t n, size_t node, size_t room_len)
 {
     static uint8_t tree[MOST_CROWDED * CLP_NODE_BYTES];

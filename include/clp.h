@@ -288,8 +288,8 @@ clp_answer clp_meant(const uint8_t *text, size_t text_len, uint8_t *room, size_t
  *     10 00 00 06 73 79 73 74 65 6D 00 00 00 00 00 00 00 00 00 00 00 01
  *     10 00 01 03 63 70 75 00 00 00 00 00 00 00 00 00 00 00 00 00 00 04 */
 
-/* Checks a tree: value 0 where it is good. clp_resolve and clp_full_path check it as well, each time. It is one walk over the records; only where many of
- * them are made to be nearly twins does it take longer, and then at most as long as to compare each with all before it: 130,816 pairs in the largest tree. */
+/* Checks a tree: value 0 where it is good. clp_resolve and clp_full_path check it as well, each time. It is one walk over the records;
+ * only a tree that is made against it takes longer, at most as long as comparing each record with all before it: 130,816 pairs in the largest tree. */
 clp_answer clp_check_tree(const uint8_t *tree, size_t tree_len);
 
 /* The instances that a target's text addresses from a default target, a node number: the value is how many node numbers now stand at the list's start,

@@ -3,7 +3,6 @@
 use std::cell::Cell;
 use std::ops::{Index, Range, RangeFrom, RangeTo};
 
-#[allow(dead_code)]
 mod source {
     use super::{meter, words, Bytes};
     include!(concat!(env!("OUT_DIR"), "/check.rs"));
@@ -21,7 +20,8 @@ mod source {
 
 /// The lookup of a record's length, which reads nothing of a tree.
 pub mod words {
-    pub fn record_len(_kind: u8) -> usize {
+    pub fn record_len(kind: u8) -> usize {
+        assert_eq!(kind, 16, "a node's record");
         22
     }
 }
@@ -30,12 +30,12 @@ pub mod words {
 #[derive(Clone, Copy, Debug, Default, PartialEq, Eq)]
 pub struct Count {
     /// Records that were compared with earlier ones.
-    pub records: u64,
+    pub searches: u64,
     /// Pairs of records whose parents were compared, and those among them whose parents agreed.
     pub pairs: u64,
     pub siblings: u64,
     /// Bytes that comparing read, and those that the rest of the check read.
-    pub compared: u64,
+    pub bytes: u64,
     pub others: u64,
 }
 
@@ -64,7 +64,7 @@ mod meter {
     }
 
     pub fn search() -> Search {
-        tell(|count| count.records += 1);
+        tell(|count| count.searches += 1);
         IS_SEARCHING.set(true);
         Search
     }
@@ -97,7 +97,7 @@ impl Index<usize> for Bytes {
     type Output = u8;
 
     fn index(&self, at: usize) -> &u8 {
-        tell(|count| if IS_SEARCHING.get() { count.compared += 1 } else { count.others += 1 });
+        tell(|count| if IS_SEARCHING.get() { count.bytes += 1 } else { count.others += 1 });
         &self.0[at]
     }
 }

@@ -18,8 +18,8 @@ use timing::{seconds_of_both, Row};
 const MEGA: usize = 1 << 20;
 
 fn main() {
-    let programs: Vec<String> = std::env::args().skip(1).collect();
-    if programs == ["trees"] {
+    let words: Vec<String> = std::env::args().skip(1).collect();
+    if words == ["trees"] {
         return touched::show();
     }
     let (mut rng, mut loud, mut barred, mut near) = (Rng::new(1), Rng::new(2), Rng::new(3), Rng::new(4));
@@ -45,7 +45,7 @@ fn main() {
     }
     let (tree, path) = input::deep_tree();
     Row::new("resolve 16 segments", tree.len() / 22, "nodes", work::resolves(&tree, &path)).show();
-    if let [ours, theirs] = &programs[..] {
+    if let [ours, theirs] = &words[..] {
         for size in [1 << 16, MEGA, 16 * MEGA, 100 * MEGA] {
             let capture = input::mixed(&mut rng, size);
             let file = std::env::temp_dir().join("clp_bench_capture");

@@ -1,4 +1,4 @@
-//! The check with plain comparing, as document 02 has it of the base: each record with every earlier one, both as whole records.
+//! The check with plain comparing: each record with every earlier one, both as whole records.
 
 /// The form of a record is tested by the proved source, here over plain slices.
 #[allow(dead_code, clippy::let_unit_value)]

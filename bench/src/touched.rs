@@ -9,10 +9,15 @@ use std::hint::black_box;
 
 const SIZES: [usize; 3] = [8, 64, 512];
 
-/// The place that the proved library answers with.
+/// The place of the first bad record, as the proved library answers it.
 fn proved(tree: &[u8]) -> Option<usize> {
-    let answer = face::check_tree(tree);
-    (answer.number != 0).then_some(answer.value as usize)
+    match face::check_tree(tree) {
+        face::Answer { number: 0, .. } => None,
+        face::Answer { number, value } => {
+            assert_eq!(number, face::REFUSED_TREE);
+            Some(value as usize)
+        }
+    }
 }
 
 /// Bytes that comparing reads of one tree, in each way.
@@ -31,7 +36,7 @@ impl Touched {
         let (without_marks, now) = (counted::check_without_marks(tree), counted::check(tree));
         let answers = [whole.0, to_difference.0, without_marks.0, now.0, plain::check_whole(tree)];
         assert_eq!(answers, [proved(tree); 5]);
-        Touched { whole: whole.1, to_difference: to_difference.1, without_marks: without_marks.1.compared, now: now.1 }
+        Touched { whole: whole.1, to_difference: to_difference.1, without_marks: without_marks.1.bytes, now: now.1 }
     }
 
     fn heading() -> String {
@@ -45,7 +50,7 @@ impl Touched {
         let Touched { whole, to_difference, without_marks, now } = self;
         format!(
             "{name:<13} {records:>7} {whole:>13} {to_difference:>13} {without_marks:>13} {:>9} {:>8} {:>9}",
-            now.records, now.pairs, now.compared
+            now.searches, now.pairs, now.bytes
         )
     }
 }
@@ -78,10 +83,13 @@ mod tests {
     use clp_gen::Rng;
 
     /// Most pairs that the check compares in a tree of so many records, and most bytes that comparing reads: a compared record's own parent, and of a pair
-    /// a parent, two numbers, two lengths and two tags.
+    /// a parent, two numbers, two lengths, and two tags up to the fifteenth letter. The sixteenth is read where all before it agree: among at most 52 good
+    /// records, and between a twin and 52.
     fn most(records: usize) -> (u64, u64) {
-        let pairs = (records * records.saturating_sub(1) / 2) as u64;
-        (pairs, 40 * pairs + 2 * records.saturating_sub(1) as u64)
+        let pairs = |records: usize| records * records.saturating_sub(1) / 2;
+        let good = records.saturating_sub(1);
+        let alike = good / 52 * pairs(52) + pairs(good % 52) + good.min(52);
+        (pairs(records) as u64, (38 * pairs(records) + 2 * alike + 2 * good) as u64)
     }
 
     /// All ways answer alike, and comparing stays below the most.
@@ -89,7 +97,7 @@ mod tests {
         let touched = Touched::of(tree);
         let (pairs, bytes) = most(tree.len().div_ceil(22).min(512));
         let now = touched.now;
-        assert!(now.siblings <= now.pairs && now.pairs <= pairs && now.compared <= bytes, "{now:?}");
+        assert!(now.siblings <= now.pairs && now.pairs <= pairs && now.bytes <= bytes, "{now:?}");
         touched
     }
 
@@ -98,7 +106,8 @@ mod tests {
         for Shape { name, make } in SHAPES {
             for records in (0..70).chain([511, 512]) {
                 let good = make(records);
-                hold(&good);
+                // the form and the marks of a good record take 32 readings, and comparing takes none of these over
+                assert_eq!(hold(&good).now.others, 32 * records as u64, "{name}, {records}");
                 assert_eq!(proved(&good), None, "{name}, {records}");
                 let Some(last) = records.checked_sub(1) else {
                     continue;
@@ -123,7 +132,7 @@ mod tests {
         let tag = |index: u16| [b"abcdefghijklm", &[b'a' + (index / 26) as u8, b'a' + (index % 26) as u8, b'p'][..]].concat();
         let nodes: Vec<Node> = (0..512).map(|index| Node { parent: 0, tag: tag(index), number: 1 }).collect();
         let now = hold(&bytes_of(&nodes)).now;
-        assert_eq!((now.records, now.pairs), (511, most(512).0));
+        assert_eq!((now.searches, now.pairs), (511, most(512).0));
     }
 
     /// What is read of two records, told by hand: the later one's parent, then of both what the ones before don't decide.
@@ -139,16 +148,16 @@ mod tests {
             (node(0, b"abcD", 256), 2 + 2 + 4 + 2 + 8, 1),
             (first.clone(), 2 + 2 + 4 + 2 + 8, 1),
         ];
-        for (second, compared, siblings) in seconds {
+        for (second, bytes, siblings) in seconds {
             let is_twin = first == second;
             let tree = bytes_of(&[first.clone(), second]);
             let (place, count) = counted::check_without_marks(&tree);
             // the first record is compared with none; its parent is read all the same
-            assert_eq!((count.compared, count.pairs, count.siblings), (2 + compared, 1, siblings), "{tree:?}");
+            assert_eq!((count.bytes, count.pairs, count.siblings), (2 + bytes, 1, siblings), "{tree:?}");
             assert_eq!(place, is_twin.then_some(22));
             let (_, now) = counted::check(&tree);
-            let expected = if is_twin { (1, 1, compared) } else { (0, 0, 0) };
-            assert_eq!((now.records, now.pairs, now.compared), expected, "{tree:?}");
+            let expected = if is_twin { (1, 1, bytes) } else { (0, 0, 0) };
+            assert_eq!((now.searches, now.pairs, now.bytes), expected, "{tree:?}");
         }
     }
 

@@ -1,7 +1,5 @@
 //! Trees as house records, paths into them, and default targets.
 
-pub use crate::crowded::crowded_tree;
-
 use crate::crowded::crowded;
 use crate::damage::damage;
 use crate::line::loose_target;
@@ -61,16 +59,21 @@ impl Tree {
 
 /// One tree: intact, damaged, crowded, or noise; mostly small, some around 512 records.
 pub fn tree(rng: &mut Rng) -> Tree {
-    let count = match rng.below(20) {
-        0..=14 => rng.below(13),
-        15..=17 => rng.below(70),
-        _ => rng.between(505, 520),
-    };
+    let count = count(rng);
     match rng.below(10) {
         0..=4 => intact_tree(rng, count),
         5..=7 => damaged_tree(rng, count),
         8 => crowded(rng, count).tree,
         _ => noise_tree(rng),
+    }
+}
+
+/// How many records a tree has: mostly few, sometimes about as many as it may have.
+pub fn count(rng: &mut Rng) -> usize {
+    match rng.below(20) {
+        0..=14 => rng.below(13),
+        15..=17 => rng.below(70),
+        _ => rng.between(505, 520),
     }
 }
 

@@ -825,11 +825,7 @@ fn a_crowded_tree_is_good_but_for_the_twin_made_in_it() {
     let mut rng = Rng::new(25);
     let mut met = [0; 6];
     for _ in 0..2000 {
-        let count = match rng.below(20) {
-            0..=14 => rng.below(13),
-            15..=17 => rng.below(70),
-            _ => rng.between(505, 520),
-        };
+        let count = tree::count(&mut rng);
         let Crowded { tree: made, pair } = crowded(&mut rng, count);
         let twin = pair.filter(|pair| pair.difference.is_none()).map(|pair| pair.later);
         assert_eq!(made.is_intact, twin.is_none());
