@@ -1,5 +1,7 @@
 // Reads lines from standard input, each ended by LF, and prints the answer of writing each canonically: in much room, with the writing and the three bytes
 // after it; then in room of exactly the writing's size, and in one byte less, with all that the room holds. Room is filled with dots before.
+#![tactic(auto)]
+
 use showing::{answered, first, line_len};
 use text::Answer;
 

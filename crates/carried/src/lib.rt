@@ -1,5 +1,7 @@
 // A reader that carries the lent line with its place and yields the next term. The functions over the struct are thin: each takes it apart and
 // calls a function on the slice and the number.
+#![tactic(auto)]
+
 ghost use Rattle.std.specs.Prelude.{◌≡◌};
 ghost use Rattle.carried.specs.Carried.{found_as, yield_at, past_at};
 
@@ -7,14 +9,14 @@ use terms::{Found, lexical, term_at};
 use text::Verdict;
 
 // The line, and the place from which the next term is looked for.
-#[derive(Drop)]
+#[derive(Clone, Copy)]
 pub struct Reader<'a> {
     pub line: &'a [u8],
     pub at: usize,
 }
 
 // The next term, none, or the line's refusal by rows 1 to 5.
-#[derive(Drop)]
+#[derive(Clone, Copy)]
 pub enum Yielded {
     Term { start: usize, len: usize },
     Nothing,

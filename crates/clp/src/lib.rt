@@ -1,4 +1,6 @@
 // The C face: exported functions on numbers and slices, as include/clp.h has them, each thin over a proved crate.
+#![tactic(auto)]
+
 ghost use Rattle.std.specs.Prelude.{◌≡◌, ◌<◌, ◌≤◌, length};
 ghost use Rattle.text.specs.Room.{fitted, filled};
 ghost use Rattle.terms.specs.Signs.{meant};
@@ -25,7 +27,7 @@ use tree::{Checked, Resolved};
 
 // What every function answers: number 0 and a value, or a refusal's number and its place.
 #[repr(C)]
-#[derive(Drop)]
+#[derive(Clone, Copy)]
 pub struct ClpAnswer {
     pub number: u64,
     pub value: u64,
@@ -33,7 +35,7 @@ pub struct ClpAnswer {
 
 // The answer of a call that joins: with how many bytes were used, and the state for the next call.
 #[repr(C)]
-#[derive(Drop)]
+#[derive(Clone, Copy)]
 pub struct ClpJoined {
     pub number: u64,
     pub value: u64,
@@ -43,7 +45,7 @@ pub struct ClpJoined {
 
 // A term: where it begins, and its length.
 #[repr(C)]
-#[derive(Drop)]
+#[derive(Clone, Copy)]
 pub struct ClpTerm {
     pub number: u64,
     pub value: u64,
@@ -52,7 +54,7 @@ pub struct ClpTerm {
 
 // A part of a line.
 #[repr(C)]
-#[derive(Drop)]
+#[derive(Clone, Copy)]
 pub struct ClpPart {
     pub position: u64,
     pub length: u64,

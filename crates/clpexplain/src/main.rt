@@ -1,5 +1,7 @@
 // Explains a console capture from standard input, for a person: the text of each line is written before the next one is joined. Where reading or writing fails
 // it says so on standard error, with the number of lines explained, and ends. Asked by an argument, it says what it is instead.
+#![tactic(auto)]
+
 ghost use Rattle.std.specs.Prelude.{◌≡◌, true, length};
 ghost use Rattle.joiner.specs.Step.{reachable};
 ghost use Rattle.lister.specs.Listing.{Sane};
@@ -11,7 +13,7 @@ use libc::STDERR_FILENO;
 use text::Answer;
 
 // What is under way: the joiner's state, how many lines' text has been written, and whether reading and writing still work.
-#[derive(Drop)]
+#[derive(Clone, Copy)]
 struct Run {
     state: Joiner,
     explained: u64,

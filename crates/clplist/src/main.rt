@@ -1,5 +1,7 @@
 // Lists a console capture from standard input: the records of each line as text, written before the next read. Where reading or writing fails it says so on
 // standard error, with the number of lines listed, and ends. Asked by an argument, it says what it is instead.
+#![tactic(auto)]
+
 ghost use Rattle.std.specs.Prelude.{◌≡◌, ◌≤◌, true, length};
 ghost use Rattle.lister.specs.Lister.{fit};
 ghost use Rattle.printing.specs.Printing.{longest};
@@ -12,7 +14,7 @@ use printing::print_part;
 use wording::records_text;
 
 // What is under way: the joiner's state, how many lines' text has been written, and whether reading and writing still work.
-#[derive(Drop)]
+#[derive(Clone, Copy)]
 struct Run {
     state: Joiner,
     listed: u64,

@@ -1,5 +1,7 @@
 // Lists a board's reply from standard input, once all of it is read: its records as text, or its refusal. Where reading or writing fails it says so on standard
 // error, with the number of lines written, and ends. Asked by an argument, it says what it is instead.
+#![tactic(auto)]
+
 ghost use Rattle.std.specs.Prelude.{◌≡◌, ◌+◌, ◌<◌, ◌≤◌, ◌∷◌, length};
 ghost use Rattle.text.specs.Room.{high_low};
 
@@ -9,14 +11,14 @@ use text::Answer;
 use wording::records_text;
 
 // What was read: how many bytes, and whether reading worked.
-#[derive(Drop)]
+#[derive(Clone, Copy)]
 struct Input {
     len: usize,
     open: bool,
 }
 
 // Whole records: where they end, and how many there are.
-#[derive(Drop)]
+#[derive(Clone, Copy)]
 struct Part {
     end: usize,
     count: usize,

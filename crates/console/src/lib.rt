@@ -1,5 +1,7 @@
 // What the programs share: what they are asked, reading what is there, handing over a text, and saying on standard error what failed.
 // What is read and written no contract can speak of.
+#![tactic(auto)]
+
 ghost use Rattle.std.specs.Prelude.{◌≡◌, true, ◌≤◌, length};
 ghost use Rattle.console.specs.Asked.{asked_of, is_work};
 ghost use Rattle.console.specs.Bounds.{Held, Told};
@@ -9,7 +11,7 @@ use libc::{EAGAIN, EINTR, EPIPE, STDERR_FILENO, STDIN_FILENO, STDOUT_FILENO};
 use text::Answer;
 
 // What a read gave: so many bytes at the start of what was lent, the end of the input, or nothing since reading failed.
-#[derive(Drop)]
+#[derive(Clone, Copy)]
 pub enum Got {
     Bytes(usize),
     End,
@@ -17,7 +19,7 @@ pub enum Got {
 }
 
 // What a program is asked by its arguments: to do its work, what it is for, which it is, or something that it does not know.
-#[derive(Drop)]
+#[derive(Clone, Copy)]
 pub enum Asked {
     Work,
     Help,

@@ -1,4 +1,6 @@
 // The text of one line for a person: what its parts are, or where and why it is refused.
+#![tactic(auto)]
+
 ghost use Rattle.std.specs.Prelude.{◌≡◌, ◌+◌, ◌*◌, ◌≤◌, ◌<◌, min, length, replicate};
 ghost use Rattle.text.specs.Decimal.{digits};
 ghost use Rattle.text.specs.Room.{fitted, filled};

@@ -1,6 +1,8 @@
 // Reads texts, one to a line, and writes what crate `forms` says of each: the tests on the whole text; what its first bytes
 // are as a value, a property and items, for all of them, for a larger number and for half of them; the topic; the target;
 // and the segments at each place where one can begin, at the end and far past it.
+#![tactic(auto)]
+
 use forms::{Piece, Shape, Where};
 use showing::{flag, line_len, number};
 

@@ -1,4 +1,6 @@
 // The forms of a command's parts.
+#![tactic(auto)]
+
 ghost use Rattle.std.specs.Prelude.{◌≡◌, suc, ◌<◌, ◌≤◌, false, ◌&&◌, length, take, drop, get_or, eqb, leb};
 ghost use Rattle.terms.specs.declared.Mode.TheVariants.{Out, OutGrave, In, InGrave};
 ghost use Rattle.terms.specs.Signs.{bare, escaped, quote, quoted, gives, signs};
@@ -13,7 +15,7 @@ use text::{Number, decimal, is_letter, letters_len, same, words_len};
 use words::{is_all, is_session};
 
 // Where a pass over a quoted string or a plain text stands.
-#[derive(Drop)]
+#[derive(Clone, Copy)]
 pub enum At {
     Start,
     Plain,
@@ -23,14 +25,14 @@ pub enum At {
 }
 
 // A property: how many bytes its name has, and its operator, 0 none, 1 `=`, 2 `==`. The value stands after both.
-#[derive(Drop)]
+#[derive(Clone, Copy)]
 pub enum Shape {
     Is { name: usize, operator: u8 },
     No,
 }
 
 // A target.
-#[derive(Drop)]
+#[derive(Clone, Copy)]
 pub enum Where {
     Session,
     Path { rooted: bool, segments: usize },
@@ -38,7 +40,7 @@ pub enum Where {
 }
 
 // A segment of a path: how many bytes it has, how many of them are its tag, and its number.
-#[derive(Drop)]
+#[derive(Clone, Copy)]
 pub enum Piece {
     Here { len: usize },
     Above { len: usize },

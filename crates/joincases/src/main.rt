@@ -1,5 +1,7 @@
 // Runs the joiner at its boundaries and writes, for each call, the bytes used, the outcome, the state and the whole
 // line buffer as runs of equal bytes. Each buffer is filled with dots before the first call.
+#![tactic(auto)]
+
 ghost use Rattle.std.specs.Prelude.{◌≤◌};
 
 use joiner::{End, Joined, Joiner, Outcome};

@@ -1,4 +1,6 @@
 // Joins the bytes of a console capture into lines.
+#![tactic(auto)]
+
 ghost use Rattle.std.specs.Prelude.{◌≡◌, true, false, ◌&&◌, cond, eqb, length, get_or, set, take, drop, ℕ, ◌+◌, ◌≤◌, ◌<◌};
 ghost use Rattle.std.proofs.lemmas.List.Edits.{sets};
 ghost use Rattle.joiner.specs.Lines.{byte_kind, is_plain_byte};
@@ -7,7 +9,7 @@ ghost use Rattle.joiner.specs.Join.{run, join_of, end_of};
 
 // What the bytes so far have left: how many bytes of the line the buffer holds, whether a GRAVE waits,
 // whether the last byte was a CR, and whether the line has passed 1,024 bytes.
-#[derive(Drop)]
+#[derive(Clone, Copy)]
 pub struct Joiner {
     pub held: usize,
     pub grave: bool,
@@ -15,21 +17,21 @@ pub struct Joiner {
     pub over: bool,
 }
 
-#[derive(Drop)]
+#[derive(Clone, Copy)]
 pub enum Outcome {
     More,
     Line(usize),
     Refused { number: u8, place: usize },
 }
 
-#[derive(Drop)]
+#[derive(Clone, Copy)]
 pub struct Joined {
     pub state: Joiner,
     pub used: usize,
     pub outcome: Outcome,
 }
 
-#[derive(Drop)]
+#[derive(Clone, Copy)]
 pub enum End {
     Nothing,
     Cut,
@@ -37,14 +39,14 @@ pub enum End {
 }
 
 // What one byte does: the next state, and the line that it ends.
-#[derive(Drop)]
+#[derive(Clone, Copy)]
 struct Stepped {
     state: Joiner,
     outcome: Outcome,
 }
 
 // Where a run of plain bytes has come to: how many bytes of the line are held, and the place in the part.
-#[derive(Drop)]
+#[derive(Clone, Copy)]
 struct Passed {
     held: usize,
     at: usize,

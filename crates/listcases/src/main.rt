@@ -1,4 +1,6 @@
 // Lists its input in parts of 7 bytes and prints what each call gave at once: the cuts of a capture change nothing that is printed.
+#![tactic(auto)]
+
 use joiner::Joiner;
 use libc::{STDIN_FILENO, STDOUT_FILENO};
 use lister::{Stands, end_answer, next_answer};

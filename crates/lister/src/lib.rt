@@ -1,4 +1,6 @@
 // A lister: joins a part of a capture and writes the records of the line that it ended.
+#![tactic(auto)]
+
 ghost use Rattle.std.specs.Prelude.{◌≡◌, ◌≤◌, length};
 ghost use Rattle.text.specs.Room.{wrote};
 ghost use Rattle.reading.specs.Reading.{reading_of};
@@ -11,7 +13,7 @@ use joiner::{End, Joiner, Outcome};
 use text::Answer;
 
 // What now stands in the room: nothing yet, so many bytes of records, or a refusal.
-#[derive(Drop)]
+#[derive(Clone, Copy)]
 pub enum Stands {
     Nothing,
     Records(usize),
@@ -19,7 +21,7 @@ pub enum Stands {
 }
 
 // What a call of the lister gives: the state, how many bytes were used, and what stands in the room.
-#[derive(Drop)]
+#[derive(Clone, Copy)]
 pub struct Listed {
     pub state: Joiner,
     pub used: usize,

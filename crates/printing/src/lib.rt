@@ -1,4 +1,6 @@
 // A part of a capture as text: the records of each line that ends in it, as text, in lent room.
+#![tactic(auto)]
+
 ghost use Rattle.std.specs.Prelude.{◌≡◌, true, ◌≤◌, length};
 ghost use Rattle.text.specs.Room.{wrote};
 ghost use Rattle.joiner.specs.Step.{reachable};
@@ -13,7 +15,7 @@ use text::Answer;
 use wording::records_text;
 
 // What printing a part gives: the state, how many bytes were used, how many lines they ended, and how many bytes of text were written.
-#[derive(Drop)]
+#[derive(Clone, Copy)]
 pub struct Printed {
     pub state: Joiner,
     pub used: usize,
@@ -22,7 +24,7 @@ pub struct Printed {
 }
 
 // What one call of the joiner gives: the state, how many bytes were used, how many lines they ended, and how many bytes of text those are.
-#[derive(Drop)]
+#[derive(Clone, Copy)]
 struct Called {
     state: Joiner,
     used: usize,

@@ -1,5 +1,7 @@
 // How far a text goes towards a form: how many bytes its longest beginning has that is also a beginning of some text of that form. One pass, byte by byte, by one of
 // three machines: for numbers, for targets, and for the forms that have names and values.
+#![tactic(auto)]
+
 ghost use Rattle.std.specs.Prelude.{◌≡◌, true, ◌&&◌, ◌-◌, ◌*◌, ◌+◌};
 ghost use Rattle.text.specs.Bytes.{is_digit};
 ghost use Rattle.terms.specs.declared.Mode.TheVariants.{Out};
@@ -15,7 +17,7 @@ use text::{Number, is_digit, is_letter, is_word};
 use words::lower;
 
 // The forms of a term's text: the arguments of keep, level, source and destination, display and output; a target; a property; a help topic.
-#[derive(Drop)]
+#[derive(Clone, Copy)]
 pub enum Form {
     Keep,
     Level,
@@ -29,7 +31,7 @@ pub enum Form {
 // ---- numbers, and `all`
 
 // Where a pass over a number stands: before it, after a leading zero, after digits of this value; after this many letters of `all`; past what can stay.
-#[derive(Drop)]
+#[derive(Clone, Copy)]
 pub enum Tally {
     First,
     Zero,
@@ -152,7 +154,7 @@ fn reach_tally(t: &[u8], level: bool) -> usize
 
 // Where a pass over a target stands, after how many segments: before a leading separator; before a segment; after `.`, after `..`; after letters of a tag; after a
 // tag and digits of this value; after a tag and `*`; past what can stay. `SESSION` goes as far as a tag of its letters does.
-#[derive(Drop)]
+#[derive(Clone, Copy)]
 pub enum Road {
     Lead,
     Start(usize),
@@ -306,7 +308,7 @@ fn reach_road(t: &[u8]) -> usize
 
 // Where a pass over such a text stands: in one without quotes; after this many bytes of a name; after the `=` of a property, where another may follow; before a value;
 // in a quoted string or a plain text; in a list, after this many items; after its closing parenthesis; past what can stay.
-#[derive(Drop)]
+#[derive(Clone, Copy)]
 pub enum Stage {
     Free,
     Name(usize),

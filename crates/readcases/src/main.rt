@@ -1,6 +1,8 @@
 // Reads cases from standard input, each the size of the room and the line's length in two bytes, high first, and then the line's
 // bytes, and writes what crate `reading` says of each: the answer, the room filled with dots as runs of equal bytes afterwards,
 // the refusal as a record, a cut as a record, and the target's place and bytes.
+#![tactic(auto)]
+
 use showing::{answered, number, part_at, runs, two_at};
 use text::Verdict;
 

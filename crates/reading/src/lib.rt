@@ -1,4 +1,6 @@
 // A line's reading: its items one step at a time, its records, its target.
+#![tactic(auto)]
+
 ghost use Rattle.std.specs.Prelude.{◌≡◌, [], ◌∷◌, true, false, ◌+◌, ◌-◌, ◌/◌, ◌%◌, ◌≤◌, ◌<◌, length, take, get_or, set};
 ghost use Rattle.std.proofs.lemmas.List.Edits.{sets};
 ghost use Rattle.text.specs.Lists.{is_nil};
@@ -21,7 +23,7 @@ use text::{Answer, Verdict};
 use words::{Kind, Known};
 
 // What may come next.
-#[derive(Drop)]
+#[derive(Clone, Copy)]
 pub enum Phase {
     First,
     Options,
@@ -30,7 +32,7 @@ pub enum Phase {
 }
 
 // What the terms so far have left: what may come next, the verb's number (0 before it), the options seen, the properties counted.
-#[derive(Drop)]
+#[derive(Clone, Copy)]
 pub struct State {
     pub phase: Phase,
     pub verb: u8,
@@ -39,7 +41,7 @@ pub struct State {
 }
 
 // A part of the command, by numbers.
-#[derive(Drop)]
+#[derive(Clone, Copy)]
 pub enum Shown {
     Verb(u8),
     Option(u8),
@@ -49,20 +51,20 @@ pub enum Shown {
 }
 
 // A term is a part of the command, or is refused by a number.
-#[derive(Drop)]
+#[derive(Clone, Copy)]
 pub enum Decided {
     Takes(Shown),
     Refuses(u8),
 }
 
-#[derive(Drop)]
+#[derive(Clone, Copy)]
 pub struct Cursor {
     pub at: usize,
     pub state: State,
 }
 
 // What a step gives.
-#[derive(Drop)]
+#[derive(Clone, Copy)]
 pub enum Offer {
     Part {
         item: Shown,
@@ -76,14 +78,14 @@ pub enum Offer {
     End,
 }
 
-#[derive(Drop)]
+#[derive(Clone, Copy)]
 pub struct Step {
     pub offer: Offer,
     pub next: Cursor,
 }
 
 // A part of a line.
-#[derive(Drop)]
+#[derive(Clone, Copy)]
 pub struct Span {
     pub at: usize,
     pub len: usize,

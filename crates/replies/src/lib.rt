@@ -1,4 +1,6 @@
 // A board's reply in keyword form: read into records, and the bytes that a value stands for.
+#![tactic(auto)]
+
 ghost use Rattle.std.specs.Prelude.{◌≡◌, ◌∷◌, [], true, length, take, drop};
 ghost use Prim.Native.Nat.{◌+◌, ◌*◌, ◌<◌, ◌≤◌};
 ghost use Rattle.std.proofs.lemmas.List.Edits.{sets};
@@ -14,7 +16,7 @@ ghost use Rattle.replies.specs.Steps.{whole_form, keyed_form, word_form, closed_
 use text::{Answer, is_letter, same, words_len};
 
 // What a line is.
-#[derive(Drop)]
+#[derive(Clone, Copy)]
 pub enum Form {
     // An empty line, or one that begins with `#`: how many bytes it has.
     Nothing { len: usize },
@@ -31,7 +33,7 @@ pub enum Form {
 }
 
 // After how many bytes a quote closes, its own byte with them.
-#[derive(Drop)]
+#[derive(Clone, Copy)]
 pub enum Closed {
     After(usize),
     Never,
@@ -39,7 +41,7 @@ pub enum Closed {
 
 // Where the reading stands after a line: at the next one, at the first of a group, past a group's end, past the reply's end, or refused. w bytes of records
 // are written.
-#[derive(Drop)]
+#[derive(Clone, Copy)]
 pub enum Step {
     Next { at: usize, w: usize },
     Opened { at: usize, w: usize },
@@ -49,7 +51,7 @@ pub enum Step {
 }
 
 // The same after whole groups.
-#[derive(Drop)]
+#[derive(Clone, Copy)]
 pub enum Stand {
     Next { at: usize, w: usize },
     Shut { at: usize, w: usize },

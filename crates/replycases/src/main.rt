@@ -2,13 +2,15 @@
 // written, 3 a raw value; the size of the room, two bytes, high first; then the records and the text. Each of these is a number of pieces, one byte, and the
 // pieces: how often a piece stands and how long it is, two bytes each, and its bytes. All room is lent full of dots; what it then holds is written as runs of
 // equal bytes.
+#![tactic(auto)]
+
 ghost use Rattle.std.specs.Prelude.{◌≤◌, length};
 
 use showing::{answered, part_at, runs, two_at};
 use text::Answer;
 
 // A text that was put together: where it ends in the input, and how many bytes it has.
-#[derive(Drop)]
+#[derive(Clone, Copy)]
 struct Pieced {
     end: usize,
     len: usize,

@@ -1,4 +1,6 @@
 // A board's reply in keyword form, written from records.
+#![tactic(auto)]
+
 ghost use Rattle.std.specs.Prelude.{◌≡◌, ◌||◌, [], ◌+◌, ◌*◌, ◌<◌, ◌≤◌, length, set};
 ghost use Rattle.std.proofs.lemmas.List.Edits.{sets};
 ghost use Rattle.text.specs.Lists.{any_of};
@@ -15,7 +17,7 @@ use replies::{is_end, is_keyword};
 use text::{Answer, copy, pair, put};
 
 // What a record tells: where its parts stand in the text, and how long they are.
-#[derive(Drop)]
+#[derive(Clone, Copy)]
 enum Cue {
     Item {
         k: usize,
@@ -34,7 +36,7 @@ enum Cue {
 }
 
 // What a record leads to: the next one at a depth, the reply's end, or a refusal by its number.
-#[derive(Drop)]
+#[derive(Clone, Copy)]
 enum Led {
     On(usize),
     Done,

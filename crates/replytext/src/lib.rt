@@ -1,4 +1,6 @@
 // The records of a board's reply as text.
+#![tactic(auto)]
+
 ghost use Rattle.std.specs.Prelude.{◌≡◌, ◌∷◌, ◌+◌, ◌≤◌};
 ghost use lib.ListN.{length, get_or};
 ghost use Rattle.std.proofs.lemmas.List.Edits.{sets};

@@ -1,4 +1,6 @@
 // What the programs that run cases share: printing, and the way through an input of lines or of cases. Nothing here is a rule of the protocol.
+#![tactic(auto)]
+
 ghost use Rattle.std.specs.Prelude.{◌≡◌, ◌+◌, ◌-◌, ◌≤◌, min, length};
 ghost use Rattle.showing.specs.Ways.{line_len, onward_to, PartIs, TwoIs};
 
@@ -143,7 +145,7 @@ pub fn line_len(input: &[u8], at: usize) -> usize
 }
 
 // A part of an input, from `start` to `end`; where the input is cut before its end, it is empty.
-#[derive(Drop)]
+#[derive(Clone, Copy)]
 pub struct Stretch {
     pub start: usize,
     pub end: usize,

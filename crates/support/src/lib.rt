@@ -1,4 +1,6 @@
 // Which options a verb can have.
+#![tactic(auto)]
+
 ghost use Rattle.std.specs.Prelude.{◌≡◌};
 ghost use Rattle.support.specs.Table15.{allowed};
 

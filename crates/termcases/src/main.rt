@@ -1,6 +1,8 @@
 // Reads cases from standard input, each its length in two bytes, high first, and then its bytes, and writes what crate
 // `terms` says of each: the refusal of rows 1 to 5, the terms, the terms found from place 1 and from the last number, tests, and
 // the bytes that it stands for, as runs of equal bytes, in enough room and in four bytes of room filled with dots.
+#![tactic(auto)]
+
 use showing::{answered, flag, number, part_at, refusal, runs, two_at};
 use terms::Found;
 use text::Verdict;

@@ -1,4 +1,6 @@
 // Terms and escapes.
+#![tactic(auto)]
+
 ghost use Rattle.std.specs.Prelude.{◌≡◌, false, cond, not, [], ◌∷◌, ◌+◌, ◌<◌, length, drop, set, eqb};
 ghost use Rattle.std.proofs.lemmas.List.Edits.{sets};
 ghost use Rattle.text.specs.Bytes.{one_of};
@@ -12,7 +14,7 @@ ghost use Rattle.terms.specs.Scan.{is_space, gap_byte, term_len, start_at, term_
 use text::{Answer, Verdict};
 
 // Where a scan stands: outside quotes or inside, and there directly after a GRAVE that nothing has escaped.
-#[derive(Drop)]
+#[derive(Clone, Copy)]
 pub enum Mode {
     Out,
     OutGrave,
@@ -21,7 +23,7 @@ pub enum Mode {
 }
 
 // The term at or after a place.
-#[derive(Drop)]
+#[derive(Clone, Copy)]
 pub enum Found {
     Term { start: usize, len: usize },
     None,

@@ -1,4 +1,6 @@
 // What every layer uses: classes of bytes, equal texts, decimal numbers, and writing into lent room.
+#![tactic(auto)]
+
 ghost use Rattle.std.specs.Prelude.{◌≡◌, set, length, drop};
 ghost use Prim.Native.Nat.{◌+◌};
 ghost use Rattle.std.proofs.lemmas.List.Edits.{sets};
@@ -8,7 +10,7 @@ ghost use Rattle.text.specs.Decimal.{decimal_of, width, digits};
 ghost use Rattle.text.specs.Room.{be16};
 
 // The answer of a function that writes into lent room.
-#[derive(Drop)]
+#[derive(Clone, Copy)]
 pub enum Answer {
     // How many bytes now stand at the room's start.
     Wrote(usize),
@@ -16,14 +18,14 @@ pub enum Answer {
 }
 
 // Whether a text is fine, or the number and the place of its refusal.
-#[derive(Drop)]
+#[derive(Clone, Copy)]
 pub enum Verdict {
     Fine,
     Flawed { number: u8, place: usize },
 }
 
 // What some digits are.
-#[derive(Drop)]
+#[derive(Clone, Copy)]
 pub enum Number {
     Is(u64),
     No,

@@ -1,4 +1,6 @@
 // The lent tree: its check, the full path of a node, and the instances that a target addresses.
+#![tactic(auto)]
+
 ghost use Rattle.std.specs.Prelude.{◌≡◌, ◌+◌, ◌-◌, ◌*◌, ◌/◌, ◌≤◌, ◌<◌, [], ◌∷◌, cond, false, length, set};
 ghost use Rattle.std.proofs.lemmas.List.Edits.{sets};
 ghost use Rattle.text.specs.Lists.{all_of};
@@ -10,14 +12,14 @@ ghost use Rattle.tree.specs.Steps.{first_of, kept, verdict_of, along_from, insta
 ghost use Rattle.tree.specs.Path.{segment, path_up, path_answer, path_room};
 
 // Whether a tree is good, or where its first bad record starts.
-#[derive(Drop)]
+#[derive(Clone, Copy)]
 pub enum Checked {
     Good,
     Bad(usize),
 }
 
 // The instances that a text addresses: a session, so many nodes at the lent list's start, or a refusal.
-#[derive(Drop)]
+#[derive(Clone, Copy)]
 pub enum Resolved {
     Session,
     Nodes(usize),
@@ -25,7 +27,7 @@ pub enum Resolved {
 }
 
 // Where a path leads: a node, the children of a node that have the tag at a place, or a refusal.
-#[derive(Drop)]
+#[derive(Clone, Copy)]
 enum Spot {
     Node(usize),
     Tagged { node: usize, at: usize, tag: usize },

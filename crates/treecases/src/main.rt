@@ -2,6 +2,8 @@
 // two bytes each, high first, then the tree, then the cases. A case is a kind, two numbers and a length, then that many bytes of
 // text: kind 1 the full path of a node into room of a size, kind 2 a text resolved from a default target into a list of a size.
 // All room is lent full of dots, and all lists full of 7s; what they then hold is written as runs of equal values.
+#![tactic(auto)]
+
 ghost use Rattle.std.specs.Prelude.{◌≤◌, length};
 
 use showing::{answered, list_runs, number, part_at, refusal, two_at};

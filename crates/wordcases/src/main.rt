@@ -2,6 +2,8 @@
 // `SESSION`; then for each number from 0 to 255 its two names as written into room of 16 bytes, the kind of its argument,
 // its body's length and its record's; then, a row for each option number of 0 to 15 and 255 and in it a flag for each verb number of
 // the same, whether the verb can have the option.
+#![tactic(auto)]
+
 use showing::{flag, line_len, number};
 use words::{Kind, Known};
 

@@ -1,4 +1,6 @@
 // Records as text: each as its kind's word and fields in decimal, one line each.
+#![tactic(auto)]
+
 ghost use Rattle.std.specs.Prelude.{◌≡◌, ◌+◌, ◌≤◌, ◌<◌, length, get_or, drop};
 ghost use Rattle.std.proofs.lemmas.List.Edits.{sets};
 ghost use Rattle.text.specs.declared.Verdict.TheVariants.{Fine};

@@ -1,4 +1,6 @@
 // Verbs, options and kinds of record.
+#![tactic(auto)]
+
 ghost use Rattle.std.specs.Prelude.{◌≡◌, ◌≤◌, ◌<◌, cond, length, get_or, eqb};
 ghost use Rattle.std.proofs.Math.Option.{none, some};
 ghost use Rattle.std.proofs.lemmas.List.Edits.{sets};
@@ -8,7 +10,7 @@ ghost use Rattle.words.specs.Tables.{known};
 ghost use Rattle.words.specs.Rows.{find_of, verb_row, option_row, row_name, row_names, candidate_of, kind_at};
 
 // The form of an option's argument; Mere: it takes none.
-#[derive(Drop)]
+#[derive(Clone, Copy)]
 pub enum Kind {
     Mere,
     Keep,
@@ -18,7 +20,7 @@ pub enum Kind {
 }
 
 // What a lookup gives: a number, or that there is none.
-#[derive(Drop)]
+#[derive(Clone, Copy)]
 pub enum Known {
     Is(u8),
     Unknown,
