@@ -7,7 +7,7 @@ use mathlib.Core.Option.{Option, none, some, some-injective}
 use mathlib.Core.Logic.{⊎_elim}
 use native.Mathlib.Omega.{arith}
 use lib.ListN.{length, get_or, take, drop, replicate, length-append, length-replicate, get_or-map, get_or-eq_default, length-drop}
-use lib.Seq.{length-take-le, take-append_seam, get_or-append-add}
+use lib.Seq.{length-take-le, take-append_seam}
 use lib.Dec.{eqb}
 use borrow.Author.Tests.{eq-eqb, ne_eqb, eqb-true, eqb-false}
 use Rattle.text.specs.Bytes.{bytes, same_bytes}
@@ -21,7 +21,7 @@ use Rattle.words.specs.Tables.{known}
 use Rattle.words.specs.Words.{long_names, short_names, lower, lowered, names, find, or, verb_of, option_of, kinds, kind_of, verb_name, option_name, short_name, bodies, body_of, len_with, record_len}
 use Rattle.words.specs.Rows.{padded, verb_row, option_row, kind_number, kind_bytes, kind_at, row_name, row_names, candidate_of, body_bytes, body_at}
 use Rattle.words.proofs.Folding.{lowered_length, lowered_nil, lowered_at}
-use Rattle.words.proofs.WordLaws.{verb_by_name, verb_only_name, verb_short, verb_out, option_shape, option_short, option_out, option_only_name, short_out, options_long, options_short, kind_out, below, below_at}
+use Rattle.words.proofs.WordLaws.{verb_by_name, verb_only_name, verb_short, verb_out, option_shape, option_short, option_out, option_only_name, short_out, options_long, options_short, below, below_at}
 
 -- ---- the tables
 
