@@ -270,11 +270,11 @@ module _ (t : List ℕ) where
 
 -- ---- bodies
 
-pub body_out : (k : ℕ) → 67 < k → body_of k ≡ none
+pub body_out : (k : ℕ) → 16 < k → body_of k ≡ none
 unfolding body_of bodies
 body_out k h = get_or-eq_default bodies none h
 
-pub body_at_lem : (k : ℕ) → k ≤ 67 → body_at (get_or body_bytes k 0) ≡ body_of k
+pub body_at_lem : (k : ℕ) → k ≤ 16 → body_at (get_or body_bytes k 0) ≡ body_of k
 unfolding body_of body_bytes bodies
 body_at_lem k h = ap body_at (get_d_within body_bytes k 0 255 (omega arith)) ∙ sym (get_or-map body_at body_bytes k 255)
 
@@ -299,8 +299,7 @@ len_unknown k = go (body_of k)
     go none e = refl
     go (some m) e = cc
 
--- by kind: 1 verb, 2 option, 3 target, 4 property, 5 refusal, 6 blank, 7 cut, 16 node, 64 item, 65 group, 66 endgroup, 67 endoutput
+-- by kind: 1 verb, 2 option, 3 target, 4 property, 5 refusal, 6 blank, 7 cut, 16 node
 pub lengths : (record_len 1 ≡ 2) × (record_len 2 ≡ 6) × (record_len 3 ≡ 5) × (record_len 4 ≡ 10) × (record_len 5 ≡ 4) × (record_len 6 ≡ 1) × (record_len 7 ≡ 1) × (record_len 16 ≡ 22)
-    × (record_len 64 ≡ 9) × (record_len 65 ≡ 5) × (record_len 66 ≡ 1) × (record_len 67 ≡ 1)
 unfolding record_len body_of bodies
-lengths = (refl, refl, refl, refl, refl, refl, refl, refl, refl, refl, refl, refl)
+lengths = (refl, refl, refl, refl, refl, refl, refl, refl)
