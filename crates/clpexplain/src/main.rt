@@ -84,7 +84,12 @@ fn feed(rt: &(impl Print + Clock), run: Run, line: &mut [u8], part: &[u8], text:
 }
 
 // Reads and explains to the end of the input, or until reading or writing fails.
-fn explain_all(rt: &(impl Print + Clock), input: &mut impl Read, line: &mut [u8], text: &mut [u8]) -> Run
+fn explain_all(
+    rt: &(impl Print + Clock),
+    input: &mut impl Read,
+    line: &mut [u8],
+    text: &mut [u8],
+) -> Run
     requires { length line.old ≡ 1024 }
 {
     let mut run = Run {
