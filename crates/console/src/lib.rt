@@ -39,14 +39,12 @@ pub fn count_words(rt: &impl Env) -> usize
     ensures { result ≤ 3 }
 {
     let mut room = [0u8; 1];
-    let mut n: usize = 0;
-    while n < 3 {
+    for n in 0..3 {
         if let Err(FillError::NotPresent) = rt.arg(n, &mut room) {
             return n;
         }
-        n += 1;
     }
-    n
+    3
 }
 
 // What the words ask that a program was started with: how many there are, its own name among them, and the first after that.
@@ -161,9 +159,7 @@ fn tell_why(why: &Error) {
 pub fn read_some(rt: &impl Clock, input: &mut impl Read, bytes: &mut [u8], why: &mut Error) -> Got
     ensures { Held result (length bytes.new) }
 {
-    let mut turns = u64::MAX;
-    while turns > 0 {
-        turns -= 1;
+    for _ in 0..u64::MAX {
         match input.read(bytes) {
             Ok(0) => return Got::End,
             Ok(n) => return Got::Bytes(n),
@@ -183,9 +179,7 @@ pub fn write_text(rt: &(impl Print + Clock), text: &[u8], why: &mut Error) -> us
     ensures { result ≤ length text.now }
 {
     let mut done: usize = 0;
-    let mut turns = u64::MAX;
-    while turns > 0 {
-        turns -= 1;
+    for _ in 0..u64::MAX {
         if text.len() <= done {
             return done;
         }
