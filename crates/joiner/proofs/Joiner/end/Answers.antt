@@ -1,0 +1,29 @@
+-- `joiner::Joiner::end` meets its contract: the tests on the way to each `return` say what `end_of` computes to.
+-- Assumes nothing.
+use borrow.Author.Tests.{lt-ltb, le-ltb}
+use Rattle.joiner.specs.Join.{end_of}
+use Rattle.joiner.proofs.Joiner.end.Goals as goal
+
+pub returns-then-not-possible : goal.returns-then-not-possible
+unfolding end_of
+returns-then-not-possible c =
+    let p = c.possible in
+    simp (← p.ensures, c.if-not-possible.true)
+
+pub returns-then-self-gt0 : goal.returns-then-self-gt0
+unfolding end_of
+returns-then-self-gt0 c =
+    let p = c.possible in
+    simp (← p.ensures, c.if-not-possible.false, lt-ltb _ _ c.if-self-gt0.true)
+
+pub returns-then-self : goal.returns-then-self
+unfolding end_of
+returns-then-self c =
+    let p = c.possible in
+    simp (← p.ensures, c.if-not-possible.false, le-ltb _ _ c.if-self-gt0.false, c.if-self.true)
+
+pub returns : goal.returns
+unfolding end_of
+returns c =
+    let p = c.possible in
+    simp (← p.ensures, c.if-not-possible.false, le-ltb _ _ c.if-self-gt0.false, c.if-self.false)

@@ -1,0 +1,13 @@
+-- `text::letters_len` meets its contract. The loop's invariant: so many bytes and the run in the rest are the run.
+use Prim.Native.Nat.{◌+◌, ◌-◌}
+use mathlib.Core.Path.{◌≡◌}
+use lib.ListN.{length, drop}
+use Rattle.text.specs.Lists.{run_len}
+use Rattle.text.specs.Bytes.{is_letter}
+use Rattle.text.proofs.letters_len.Given as goal
+
+abbrev pub invariant-loop-i : goal.invariant-loop-i
+invariant-loop-i l = l.i + run_len is_letter (drop l.i l.s) ≡ run_len is_letter l.s
+
+abbrev pub decreases-loop-i : goal.decreases-loop-i
+decreases-loop-i l = length l.s - l.i
