@@ -45,10 +45,22 @@ fn function(source: &str, name: &str) -> String {
     let public = format!("pub fn {name}(");
     let begin = if source.contains(&format!("\n{public}")) { public } else { format!("fn {name}(") };
     let told = TOLD.iter().find(|(told, _)| *told == name).map_or("", |(_, what)| what);
-    let is_contract = |line: &&str| line.starts_with("    requires {") || line.starts_with("    ensures {");
     let text = piece(source, &begin);
-    let (contract, code): (Vec<&str>, Vec<&str>) = text.lines().partition(is_contract);
+    let (contract, code) = parted(&text);
     let code = code.join("\n").replace("[u8]", "Bytes");
     assert!(!contract.is_empty() && code.contains("\n{\n"), "{name}: a contract, and then a brace on a line of its own");
     code.replacen("\n{\n", &format!("\n{{\n{told}\n"), 1) + "\n"
+}
+
+/// A function's lines: those of its contract, whose clauses each go on to the brace that closes them, and the others.
+fn parted(text: &str) -> (Vec<&str>, Vec<&str>) {
+    let mut open = 0;
+    text.lines().partition(|line| {
+        let within = open > 0 || line.starts_with("    requires") || line.starts_with("    ensures");
+        if within {
+            open += line.matches('{').count();
+            open -= line.matches('}').count();
+        }
+        within
+    })
 }

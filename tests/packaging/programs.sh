@@ -11,13 +11,11 @@ programs() {
         try "$program: another argument" is "$("$at/bin/$program" --other <"$capture" 2>&1)" "$program: it takes --help or --version, or no argument and a $(input_of $program) on standard input"
     done
 }
-# The kit's emulator runs programs for x86-64, with the C library that it has for them.
+# The emulator runs programs for another machine, with the C library that its C compiler has for them.
 emulated() {
-    guide=$(rt doc)
-    tools=${guide%/docs/START-HERE.md}/on/$here/toolchain
     mkdir "$at/bin"
     for program in clplist clpexplain clpreply; do
-        printf '#!/bin/sh\nexec "%s/bin/qemu-x86_64" "%s/lib/ld-linux-x86-64.so.2" --library-path "%s/lib" "%s/bin/%s" "$@"\n' "$tools" "$tools" "$tools" "$own" $program >"$at/bin/$program"
+        printf '#!/bin/sh\nexec qemu-%s -L "%s" "%s/bin/%s" "$@"\n' "$machine" "/usr/$machine-linux-gnu" "$own" $program >"$at/bin/$program"
         chmod +x "$at/bin/$program"
     done
 }

@@ -153,7 +153,7 @@ no_separator t b m n e = simp (other_byte t 47 b true m e, other_byte t 92 b tru
 -- its first byte is a `.`, a letter, or none that begins a segment
 start_dot : (b : ℕ) → eqb b 46 ≡ true → Leads start_rest b dot_rest
 unfolding start_rest dot_rest is_segment is_numbered is_starred tag_len run_len same_bytes bytes
-start_dot b e z y = rw (eqb-true b 46 e, and-false z, or-false) (or-false (dot_rest z y))
+start_dot b e z y = rw (eqb-true b 46 e, and-false z) (simp or-false)
 
 start_letter : (b : ℕ) → eqb b 46 ≡ false → is_letter b ≡ true → Leads start_rest b (tag_rest 1)
 unfolding start_rest tag_rest is_segment is_numbered is_starred tag_len run_len same_bytes bytes

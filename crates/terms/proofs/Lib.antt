@@ -11,3 +11,4 @@ pub mod RowLaws
 pub mod Examples
 pub mod Only
 pub mod RunLaws
+pub mod QuoteTests

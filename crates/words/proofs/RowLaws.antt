@@ -7,7 +7,7 @@ use mathlib.Core.Option.{Option, none, some, some-injective}
 use mathlib.Core.Logic.{⊎_elim}
 use native.Mathlib.Omega.{arith}
 use lib.ListN.{length, get_or, take, drop, replicate, length-append, length-replicate, get_or-map, get_or-eq_default, length-drop}
-use lib.Seq.{length-take-le, take-append_seam, get_or-append-add}
+use lib.Seq.{length-take-le, take-append_seam}
 use lib.Dec.{eqb}
 use borrow.Author.Tests.{eq-eqb, ne_eqb, eqb-true, eqb-false}
 use Rattle.text.specs.Bytes.{bytes, same_bytes}
@@ -21,7 +21,7 @@ use Rattle.words.specs.Tables.{known}
 use Rattle.words.specs.Words.{long_names, short_names, lower, lowered, names, find, or, verb_of, option_of, kinds, kind_of, verb_name, option_name, short_name, bodies, body_of, len_with, record_len}
 use Rattle.words.specs.Rows.{padded, verb_row, option_row, kind_number, kind_bytes, kind_at, row_name, row_names, candidate_of, body_bytes, body_at}
 use Rattle.words.proofs.Folding.{lowered_length, lowered_nil, lowered_at}
-use Rattle.words.proofs.WordLaws.{verb_by_name, verb_only_name, verb_short, verb_out, option_shape, option_short, option_out, option_only_name, short_out, options_long, options_short, kind_out, below, below_at}
+use Rattle.words.proofs.WordLaws.{verb_by_name, verb_only_name, verb_short, verb_out, option_shape, option_short, option_out, option_only_name, short_out, options_long, options_short, below, below_at}
 
 -- ---- the tables
 
@@ -270,11 +270,11 @@ module _ (t : List ℕ) where
 
 -- ---- bodies
 
-pub body_out : (k : ℕ) → 67 < k → body_of k ≡ none
+pub body_out : (k : ℕ) → 16 < k → body_of k ≡ none
 unfolding body_of bodies
 body_out k h = get_or-eq_default bodies none h
 
-pub body_at_lem : (k : ℕ) → k ≤ 67 → body_at (get_or body_bytes k 0) ≡ body_of k
+pub body_at_lem : (k : ℕ) → k ≤ 16 → body_at (get_or body_bytes k 0) ≡ body_of k
 unfolding body_of body_bytes bodies
 body_at_lem k h = ap body_at (get_d_within body_bytes k 0 255 (omega arith)) ∙ sym (get_or-map body_at body_bytes k 255)
 
@@ -299,8 +299,7 @@ len_unknown k = go (body_of k)
     go none e = refl
     go (some m) e = cc
 
--- by kind: 1 verb, 2 option, 3 target, 4 property, 5 refusal, 6 blank, 7 cut, 16 node, 64 item, 65 group, 66 endgroup, 67 endoutput
+-- by kind: 1 verb, 2 option, 3 target, 4 property, 5 refusal, 6 blank, 7 cut, 16 node
 pub lengths : (record_len 1 ≡ 2) × (record_len 2 ≡ 6) × (record_len 3 ≡ 5) × (record_len 4 ≡ 10) × (record_len 5 ≡ 4) × (record_len 6 ≡ 1) × (record_len 7 ≡ 1) × (record_len 16 ≡ 22)
-    × (record_len 64 ≡ 9) × (record_len 65 ≡ 5) × (record_len 66 ≡ 1) × (record_len 67 ≡ 1)
 unfolding record_len body_of bodies
-lengths = (refl, refl, refl, refl, refl, refl, refl, refl, refl, refl, refl, refl)
+lengths = (refl, refl, refl, refl, refl, refl, refl, refl)

@@ -1,5 +1,5 @@
 -- The command, 1 and 2, with request a of document 02: verbs and options by name and by number; and the kinds of record with the length of their bodies.
-use Rattle.std.specs.Prelude.{ℕ, suc, ◌+◌, List, [], ◌∷◌, ◌++◌, map, Bool, cond, not, ◌&&◌, get_or, replicate, leb}
+use Rattle.std.specs.Prelude.{ℕ, suc, ◌+◌, List, [], ◌∷◌, map, Bool, cond, not, ◌&&◌, get_or, eqb, leb}
 use Rattle.std.proofs.Math.Option.{Option, none, some}
 use Rattle.text.specs.Bytes.{bytes, same_bytes}
 use Rattle.text.specs.Lists.{is_nil}
@@ -72,12 +72,10 @@ all_name = bytes "all"
 unfoldable pub session_name : List ℕ
 session_name = bytes "SESSION"
 
--- how long the body of a record is, by its kind: 1 verb, 2 option, 3 target, 4 property, 5 refusal, 6 blank, 7 cut, 16 node; of a reply, 64 item, 65 group,
--- 66 `endgroup`, 67 `endoutput`
+-- how long the body of a record is, by its kind: 1 verb, 2 option, 3 target, 4 property, 5 refusal, 6 blank, 7 cut, 16 node
 unfoldable pub bodies : List (Option ℕ)
 bodies =
-    none ∷ some 1 ∷ some 5 ∷ some 4 ∷ some 9 ∷ some 3 ∷ some 0 ∷ some 0 ∷ none ∷ none ∷ none ∷ none ∷ none ∷ none ∷ none ∷ none ∷ some 21
-    ∷ (replicate 47 none ++ (some 8 ∷ some 4 ∷ some 0 ∷ some 0 ∷ []))
+    none ∷ some 1 ∷ some 5 ∷ some 4 ∷ some 9 ∷ some 3 ∷ some 0 ∷ some 0 ∷ none ∷ none ∷ none ∷ none ∷ none ∷ none ∷ none ∷ none ∷ some 21 ∷ []
 
 unfoldable pub body_of : ℕ → Option ℕ
 body_of k = get_or bodies k none
@@ -89,3 +87,7 @@ len_with (some n) = 1 + n
 
 unfoldable pub record_len : ℕ → ℕ
 record_len k = len_with (body_of k)
+
+-- how long a whole record of a reply is, by its kind: 64 item, 65 group, 66 `endgroup`, 67 `endoutput`; 0 where it has no such kind
+abbrev pub reply_record_len : ℕ → ℕ
+reply_record_len k = cond (eqb k 64) 9 (cond (eqb k 65) 5 (cond (eqb k 66) 1 (cond (eqb k 67) 1 0)))

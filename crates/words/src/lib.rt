@@ -5,7 +5,7 @@ ghost use Rattle.std.specs.Prelude.{◌≡◌, ◌≤◌, ◌<◌, cond, length,
 ghost use Rattle.std.proofs.Math.Option.{none, some};
 ghost use Rattle.std.proofs.lemmas.List.Edits.{sets};
 ghost use Rattle.text.specs.Bytes.{same_bytes};
-ghost use Rattle.words.specs.Words.{lower, lowered, names, verb_names, verb_of, verb_name, option_of, option_name, kind_of, all_name, session_name, body_of, record_len};
+ghost use Rattle.words.specs.Words.{lower, lowered, names, verb_names, verb_of, verb_name, option_of, option_name, kind_of, all_name, session_name, body_of, record_len, reply_record_len};
 ghost use Rattle.words.specs.Tables.{known};
 ghost use Rattle.words.specs.Rows.{find_of, verb_row, option_row, row_name, row_names, candidate_of, kind_at};
 
@@ -76,7 +76,7 @@ const KINDS: [u8; 13] = [
 const NO_BODY: u8 = 255;
 
 // How long the body of a record is, by its kind.
-const BODIES: [u8; 68] = [
+const BODIES: [u8; 17] = [
     NO_BODY, 1, // verb
     5, // option
     4, // target
@@ -85,14 +85,6 @@ const BODIES: [u8; 68] = [
     0, // blank
     0, // cut
     NO_BODY, NO_BODY, NO_BODY, NO_BODY, NO_BODY, NO_BODY, NO_BODY, NO_BODY, 21, // node
-    NO_BODY, NO_BODY, NO_BODY, NO_BODY, NO_BODY, NO_BODY, NO_BODY, NO_BODY, NO_BODY, NO_BODY,
-    NO_BODY, NO_BODY, NO_BODY, NO_BODY, NO_BODY, NO_BODY, NO_BODY, NO_BODY, NO_BODY, NO_BODY,
-    NO_BODY, NO_BODY, NO_BODY, NO_BODY, NO_BODY, NO_BODY, NO_BODY, NO_BODY, NO_BODY, NO_BODY,
-    NO_BODY, NO_BODY, NO_BODY, NO_BODY, NO_BODY, NO_BODY, NO_BODY, NO_BODY, NO_BODY, NO_BODY,
-    NO_BODY, NO_BODY, NO_BODY, NO_BODY, NO_BODY, NO_BODY, NO_BODY, 8, // item of a reply
-    4, // group
-    0, // endgroup
-    0, // endoutput
 ];
 
 // The row of a verb; zeros where there is no such number.
@@ -343,7 +335,7 @@ fn put_row(out: &mut [u8], at: usize, row: &[u8]) -> usize
 pub fn body_len(kind: u8) -> Known
     ensures { result ≡ known (body_of kind) }
 {
-    if 67 < kind {
+    if 16 < kind {
         return Known::Unknown;
     }
     let n = BODIES[kind as usize];
@@ -361,5 +353,18 @@ pub fn record_len(kind: u8) -> usize
     match b {
         Known::Is(n) => 1 + n as usize,
         Known::Unknown => 0,
+    }
+}
+
+// How long a whole record of a reply is, by its kind; 0 where a reply has no such kind.
+pub fn reply_record_len(kind: u8) -> usize
+    ensures { result ≡ reply_record_len kind }
+{
+    match kind {
+        64 => 9, // item
+        65 => 5, // group
+        66 => 1, // endgroup
+        67 => 1, // endoutput
+        _ => 0,
     }
 }

@@ -1,0 +1,34 @@
+-- `forms::is_entry` meets its contract. Assumes nothing.
+use mathlib.Core.Path.{sym, ◌∙◌}
+use native.Mathlib.Omega.{arith}
+use borrow.Author.Rules.{rules}
+use Rattle.forms.proofs.PropertyLaws.{entry_unnamed, entry_mere, entry_not, entry_one, value_within}
+use Rattle.forms.proofs.is_entry.Goals as goal
+
+pub returns-then-k-eq0 : goal.returns-then-k-eq0
+returns-then-k-eq0 c = entry_unnamed c.args.s.now c.args.n c.name_len-k.result c.name_len-k.ensures c.if-k-eq0.true
+
+pub returns-then-k-end_of : goal.returns-then-k-end_of
+returns-then-k-end_of c = entry_mere c.args.s.now c.args.n c.name_len-k.result c.name_len-k.ensures c.if-k-eq0.false (c.if-k-end_of.true ∙ c.end_of.ensures)
+
+pub returns-then-not-is_equal : goal.returns-then-not-is_equal
+returns-then-not-is_equal c = entry_not c.args.s.now c.args.n c.name_len-k.result c.name_len-k.ensures c.if-k-eq0.false (λ z. c.if-k-end_of.false (z ∙ sym c.end_of.ensures)) (sym c.is_equal.ensures ∙ c.if-not-is_equal.true)
+
+pub overflow_add-v : goal.overflow_add-v
+overflow_add-v c = omega (arith, (value_within c.args.s.now c.args.n c.name_len-k.result c.name_len-k.ensures c.if-k-eq0.false (λ z. c.if-k-end_of.false (z ∙ sym c.end_of.ensures)) (sym c.is_equal.ensures ∙ c.if-not-is_equal.false)))
+
+pub slice_bounds-is_value-count : goal.slice_bounds-is_value-count
+slice_bounds-is_value-count c = omega (arith, (value_within c.args.s.now c.args.n c.name_len-k.result c.name_len-k.ensures c.if-k-eq0.false (λ z. c.if-k-end_of.false (z ∙ sym c.end_of.ensures)) (sym c.is_equal.ensures ∙ c.if-not-is_equal.false)))
+
+pub slice_bounds-is_value-start : goal.slice_bounds-is_value-start
+slice_bounds-is_value-start c = let h = value_within c.args.s.now c.args.n c.name_len-k.result c.name_len-k.ensures c.if-k-eq0.false (λ z. c.if-k-end_of.false (z ∙ sym c.end_of.ensures)) (sym c.is_equal.ensures ∙ c.if-not-is_equal.false) in search rules
+
+pub overflow_sub-n : goal.overflow_sub-n
+overflow_sub-n c = omega (arith, (value_within c.args.s.now c.args.n c.name_len-k.result c.name_len-k.ensures c.if-k-eq0.false (λ z. c.if-k-end_of.false (z ∙ sym c.end_of.ensures)) (sym c.is_equal.ensures ∙ c.if-not-is_equal.false)))
+
+pub returns : goal.returns
+returns c =
+    let k = c.name_len-k in
+    let a = c.args in
+    entry_one a.s.now a.n k.result k.ensures c.if-k-eq0.false (λ z. c.if-k-end_of.false (z ∙ sym c.end_of.ensures)) c.is_value.result
+    (sym c.is_equal.ensures ∙ c.if-not-is_equal.false) c.is_value.ensures

@@ -1,0 +1,22 @@
+use mathlib.Core.Path.{sym, ◌∙◌}
+use native.Mathlib.Omega.{arith}
+use Rattle.terms.specs.Scan.{ordinary}
+use Rattle.text.proofs.Scans.{run_part}
+use Rattle.terms.proofs.ordinary_blocks.Goals as goal
+
+pub loop-i-init : goal.loop-i-init
+loop-i-init c = (omega arith, omega arith)
+
+pub returns-then-not-all_ordinary : goal.returns-then-not-all_ordinary
+returns-then-not-all_ordinary c = c.loop-i.invariant.0
+
+pub loop-i-preserved : goal.loop-i-preserved
+loop-i-preserved c =
+    let at = c in
+    let t = c.all_ordinary in
+    let e = sym t.ensures ∙ c.if-not-all_ordinary.false in
+    let r = run_part (ordinary 34) at.args.line.now at.loop-i.i 16 (omega arith) e in
+    (omega (arith, at.loop-i.invariant.0, r), omega arith)
+
+pub returns : goal.returns
+returns c = c.loop-i.invariant.0
