@@ -11,7 +11,7 @@ use Rattle.terms.specs.declared.Found.{Found}
 use Rattle.terms.specs.declared.Found.TheVariants as found
 use Rattle.terms.specs.Rows.{lexical_of}
 use Rattle.terms.specs.Scan.{term_at}
-use Rattle.terms.specs.Terms.{Term, terms_of}
+use Rattle.terms.specs.Terms.{terms_of}
 use Rattle.terms.specs.Going.{place_after, term_calls, found_term}
 use Rattle.terms.proofs.NextTerm.{term_within}
 use Rattle.terms.proofs.TermList.{listed}

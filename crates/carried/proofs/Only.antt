@@ -34,8 +34,8 @@ pub past_at_only :
     → r ≡ r'
 past_at_only κs a r r' s s' p q = p ∙ sym q
 
--- Of a function that has the struct in a parameter, its result or a local, the kit makes no such reading. So for these four the clause of the source stands here
--- again, as the two premises.
+-- The kit before this one made no such reading of a function that has the struct in a parameter, its result or a local. So for these four the clause of the
+-- source stands here again, as the two premises.
 module _ (q q' : Reader) where
   -- a reader is told by its line and its place
   told : (l : Bor (List ℕ)) (n : ℕ) → (q.line ≡ l) × (q.at ≡ n) → (q'.line ≡ l) × (q'.at ≡ n) → q ≡ q'

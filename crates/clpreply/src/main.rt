@@ -5,8 +5,10 @@
 ghost use Rattle.std.specs.Prelude.{◌≡◌, ◌+◌, ◌<◌, ◌≤◌, ◌∷◌, length};
 ghost use Rattle.text.specs.Room.{high_low};
 
-use console::{Got, asks, read_some, tell, works, write_answer};
+use console::{Got, asks, count_words, no_failure, read_some, tell, works, write_answer};
 use replytext::record_text;
+use std::io::{Error, Read};
+use std::rt::{Clock, Env};
 use text::Answer;
 use wording::records_text;
 
@@ -31,8 +33,8 @@ fn records_room() -> [u8; 196608]
     [0; 196608]
 }
 
-// Reads to the end of the input, or until the room is full.
-fn read_input(bytes: &mut [u8]) -> Input
+// Reads to the end of the input, or until the room is full. Where reading failed, `why` tells why.
+fn read_input(rt: &impl Clock, input: &mut impl Read, bytes: &mut [u8], why: &mut Error) -> Input
     ensures { result.len ≤ length bytes.new }
 {
     let mut len: usize = 0;
@@ -42,7 +44,7 @@ fn read_input(bytes: &mut [u8]) -> Input
         if bytes.len() <= len {
             return Input { len, open: true };
         }
-        let got = read_some(&mut bytes[len..]);
+        let got = read_some(rt, input, &mut bytes[len..], why);
         match got {
             Got::Failed => return Input { len, open: false },
             Got::End => return Input { len, open: true },
@@ -104,16 +106,17 @@ fn part_text(records: &[u8], text: &mut [u8]) -> usize
 }
 
 // Writes the text of records, part after part, or says that writing failed.
-fn print_records(records: &[u8], text: &mut [u8]) {
+fn print_records(rt: &(impl Print + Clock), records: &[u8], text: &mut [u8]) {
     let mut at: usize = 0;
     let mut lines: u64 = 0;
+    let mut why = no_failure();
     while at < records.len() {
         let p = part_from(records, at);
         let end = p.end;
         let count = p.count;
         let n = part_text(&records[at..end], text);
-        if !write_answer(Answer::Wrote(n), text) {
-            tell(b"clpreply: writing failed after ", lines);
+        if !write_answer(rt, Answer::Wrote(n), text, &mut why) {
+            tell(b"clpreply: writing failed after ", lines, &why);
             return;
         }
         lines = std::num::wrapping_add_u64(lines, count as u64);
@@ -122,10 +125,11 @@ fn print_records(records: &[u8], text: &mut [u8]) {
 }
 
 // Writes a refusal, or says that writing failed.
-fn print_refusal(record: &[u8], text: &mut [u8]) {
+fn print_refusal(rt: &(impl Print + Clock), record: &[u8], text: &mut [u8]) {
+    let mut why = no_failure();
     let a = records_text(record, text);
-    if !write_answer(a, text) {
-        tell(b"clpreply: writing failed after ", 0);
+    if !write_answer(rt, a, text, &mut why) {
+        tell(b"clpreply: writing failed after ", 0, &why);
     }
 }
 
@@ -138,42 +142,44 @@ fn refusal(number: u8, place: usize) -> [u8; 4]
 }
 
 // Writes what reading a reply gives.
-fn print_reply(reply: &[u8], records: &mut [u8], text: &mut [u8]) {
+fn print_reply(rt: &(impl Print + Clock), reply: &[u8], records: &mut [u8], text: &mut [u8]) {
     let a = replies::read(reply, records);
     match a {
-        Answer::Wrote(n) => print_records(&records[..n], text),
+        Answer::Wrote(n) => print_records(rt, &records[..n], text),
         Answer::Refused { number, place } => {
             let r = refusal(number, place);
-            print_refusal(&r, text);
+            print_refusal(rt, &r, text);
         }
     }
 }
 
 // Lists standard input. A byte more than a reply may have is read, so that a longer one is refused as such.
-fn list() {
+fn list(rt: &(impl Print + Clock), input: &mut impl Read) {
     let mut bytes = io::large_buffer();
-    let got = read_input(&mut bytes);
+    let mut why = no_failure();
+    let got = read_input(rt, input, &mut bytes, &mut why);
     if !got.open {
-        tell(b"clpreply: reading failed after ", 0);
+        tell(b"clpreply: reading failed after ", 0, &why);
         return;
     }
     let n = got.len;
     let mut records = records_room();
     let mut text = io::large_buffer();
-    print_reply(&bytes[..n], &mut records, &mut text);
+    print_reply(rt, &bytes[..n], &mut records, &mut text);
 }
 
-fn main() {
+fn main(rt: HostRuntime) {
     let mut word = [0u8; 16];
-    let n = os::arg(1, &mut word);
-    let asked = asks(os::arg_count(), &word[..n]);
+    let n = rt.arg(1, &mut word).unwrap_or(0);
+    let asked = asks(count_words(&rt), &word[..n]);
     if works(
+        &rt,
         asked,
         b"usage: clpreply [--help | --version] < REPLY\n\nLists what a board answered to an SM CLP command, in keyword format: a line for\neach of these, or a refusal alone.\n\n  item POSITION LENGTH POSITION LENGTH\n  group POSITION LENGTH\n  endgroup\n  endoutput\n  refusal NUMBER PLACE\n\nAn item's keyword comes first, then its value. Positions and places count bytes of\nthe reply from 0. Where reading or writing fails, standard error says so.\n",
         b"clpreply 0.1.0\n",
         b"clpreply: it takes --help or --version, or no argument and a reply on standard input\n",
         b"clpreply: writing failed after ",
     ) {
-        list();
+        list(&rt, &mut rt.stdin());
     }
 }

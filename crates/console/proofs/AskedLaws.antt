@@ -6,7 +6,6 @@ use mathlib.Core.Bool.{Bool, true, false, cond}
 use lib.Dec.{leb}
 use borrow.Author.Tests.{le-leb, lt-leb}
 use Rattle.text.specs.Bytes.{bytes, same_bytes}
-use Rattle.console.specs.declared.Asked.{Asked}
 use Rattle.console.specs.declared.Asked.TheVariants.{Work, Help, Version, Other}
 use Rattle.console.specs.Asked.{asked_by, asked_of}
 

@@ -4,6 +4,11 @@ use contract.Lifetimes
 use borrow.Fn.World
 use borrow.Fn.Kinds
 use denote.Triple.Clauses
+use denote.RattleType
+use denote.Param.Laws
+use mir.Syntax
+use Rattle.std.specs.declared.io.Print
+use Rattle.std.specs.declared.time.Clock
 use Rattle.console.specs.contracts.asks as asks-fn
 use Rattle.console.proofs.asks.Kinds as asks-kinds
 use Rattle.console.proofs.asks.Reads as asks-reads
@@ -19,10 +24,12 @@ pub asks_only :
     → r ≡ r'
 asks_only κs a r r' s s' p q = p ∙ sym q
 
-pub works_only :
-    (κs : Lifetimes.Lfts 4) (a : World.ArgsD works-fn.signature κs)
-    (r r' : World.ResD works-fn.signature κs)
-    (s s' : Clauses.AtExit (Kinds.ended_of 4 works-kinds.ps works-kinds.r) κs)
-    → works-reads.Post κs a r s → works-reads.Post κs a r' s'
-    → r ≡ r'
-works_only κs a r r' s s' p q = p ∙ sym q
+-- whatever the runtime is that the program is given
+module _ (R : RattleType.RattleType) (L : Laws.Laws R) (P : Print.Ghosts R.Denot) (Pd : Syntax.Dict) (C : Clock.Ghosts R.Denot) (Cd : Syntax.Dict) where
+  pub works_only :
+      (κs : Lifetimes.Lfts 6) (a : World.ArgsD (works-fn.signature R) κs)
+      (r r' : World.ResD (works-fn.signature R) κs)
+      (s s' : Clauses.AtExit (Kinds.ended_of 6 (works-kinds.ps R L) (works-kinds.r R L)) κs)
+      → works-reads.Post R L P Pd C Cd κs a r s → works-reads.Post R L P Pd C Cd κs a r' s'
+      → r ≡ r'
+  works_only κs a r r' s s' p q = p ∙ sym q

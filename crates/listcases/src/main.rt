@@ -2,7 +2,6 @@
 #![tactic(auto)]
 
 use joiner::Joiner;
-use libc::{STDIN_FILENO, STDOUT_FILENO};
 use lister::{Stands, end_answer, next_answer};
 use showing::{first, onward};
 use text::Answer;
@@ -19,7 +18,7 @@ fn print(records: &[u8], text: &mut [u8]) {
             number: _,
             place: _,
         } => {
-            io::write_all(STDOUT_FILENO, b"bad records\n");
+            io::write_all(1, b"bad records\n");
         }
     }
 }
@@ -37,7 +36,7 @@ fn show(s: Stands, room: &[u8], text: &mut [u8]) {
             number: _,
             place: _,
         } => {
-            io::write_all(STDOUT_FILENO, b"refused\n");
+            io::write_all(1, b"refused\n");
         }
     }
 }
@@ -69,7 +68,7 @@ fn list_all(line: &mut [u8], room: &mut [u8], text: &mut [u8]) -> Joiner {
     let mut turns = u64::MAX;
     while turns > 0 {
         turns -= 1;
-        let got = io::read_full(STDIN_FILENO, &mut part);
+        let got = io::read_full(0, &mut part);
         if got == 0 {
             return state;
         }

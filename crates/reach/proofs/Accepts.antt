@@ -6,7 +6,7 @@ use mathlib.Core.Bool.{Bool, true, false, cond, not, ◌&&◌}
 use native.Mathlib.Omega.{arith}
 use lib.Dec.{eqb, ltb}
 use borrow.Author.Tests.{eqb-true, lt-ltb}
-use Rattle.text.specs.Bytes.{bytes, one_of, is_letter, is_word}
+use Rattle.text.specs.Bytes.{bytes, one_of, is_word}
 use Rattle.text.proofs.Tests.{and_l, and_r, and_in, no_case}
 use Rattle.text.proofs.Classes.{letter_word, other_byte}
 use Rattle.terms.specs.declared.Mode.{Mode}

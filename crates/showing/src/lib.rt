@@ -4,17 +4,19 @@
 ghost use Rattle.std.specs.Prelude.{◌≡◌, ◌+◌, ◌-◌, ◌≤◌, min, length};
 ghost use Rattle.showing.specs.Ways.{line_len, onward_to, PartIs, TwoIs};
 
-use libc::STDOUT_FILENO;
 use text::Answer;
+
+// Standard output.
+const STDOUT: i32 = 1;
 
 // A text.
 fn say(t: &[u8]) {
-    io::write_all(STDOUT_FILENO, t);
+    io::write_all(STDOUT, t);
 }
 
 // A number, and a space.
 pub fn number(n: usize) {
-    io::print_decimal(STDOUT_FILENO, n as u64);
+    io::print_decimal(STDOUT, n as u64);
     say(b" ");
 }
 

@@ -1,0 +1,21 @@
+-- `reach::tag_end` meets its contract. Assumes nothing.
+use mathlib.Core.Path.{sym, ◌∙◌}
+use Rattle.reach.proofs.StepLaws.{digit_small, tag_star, tag_zero, tag_number, tag_off}
+use native.Mathlib.Omega.{arith}
+use borrow.Author.Rules.{rules}
+use Rattle.reach.proofs.tag_end.Goals as goal
+
+pub returns-then-b-eq42 : goal.returns-then-b-eq42
+returns-then-b-eq42 c = search (tag_star, rules)
+
+pub returns-then-b-eq48 : goal.returns-then-b-eq48
+returns-then-b-eq48 c = search (tag_zero, rules)
+
+pub overflow_cast-result : goal.overflow_cast-result
+overflow_cast-result c = omega (arith, digit_small _ _ _ _ (sym c.in-Is.is ∙ c.digit_more-d.ensures))
+
+pub returns-in-Is : goal.returns-in-Is
+returns-in-Is c = search (tag_number, rules)
+
+pub returns-in-No : goal.returns-in-No
+returns-in-No c = search (tag_off, rules)

@@ -1,0 +1,11 @@
+-- `reach::text_on` meets its contract. Assumes nothing.
+use Rattle.reach.specs.Stages.{text_on}
+use Rattle.reach.proofs.text_on.Goals as goal
+
+pub returns-then-is_alive : goal.returns-then-is_alive
+unfolding text_on
+returns-then-is_alive c = rw (← c.at_step-p.ensures, ← c.step-n.ensures, ← c.is_alive.ensures, c.if-is_alive.true)
+
+pub returns : goal.returns
+unfolding text_on
+returns c = rw (← c.at_step-p.ensures, ← c.step-n.ensures, ← c.is_alive.ensures, c.if-is_alive.false)
