@@ -12,7 +12,7 @@ use Rattle.canonical.specs.Written.{level_in}
 use Rattle.forms.specs.Forms.{has_eq, is_keep, is_level, is_mark, is_place, starts}
 use Rattle.forms.specs.Targets.{is_separator}
 use Rattle.terms.specs.Signs.{Sign, bare, escaped, is_bare, quote, quoted, quoted_escaped, stands, stands_for, twelve, bares}
-use Rattle.text.specs.Bytes.{bytes, is_digit, is_word, one_of, printable, same_bytes}
+use Rattle.text.specs.Bytes.{bytes, is_digit, is_word, one_of, printable}
 use Rattle.text.specs.Decimal.{is_decimal}
 use Rattle.text.specs.Lists.{all_of, any_of, is_nil}
 use Rattle.words.specs.Words.{lowered, names, option_name, option_of, verb_name, verb_of, all_name}
@@ -20,7 +20,6 @@ use Rattle.canonical.proofs.Lexing.{ok_bare, ok_sign, good}
 use Rattle.canonical.proofs.Values.{good_bares, starts_none, word_byte}
 use Rattle.canonical.proofs.Targets.{ok_written, digit_segment, byte_segment}
 use Rattle.text.proofs.Tests.{and_l, and_r, and_in, or_l, or_r, no_case, either, or_case}
-use Rattle.text.proofs.SameTexts.{same_eq}
 use Rattle.text.proofs.AllAny.{all_mono}
 use Rattle.terms.proofs.Bares.{none_bares}
 use Rattle.text.proofs.Decimals.{decimal_made}

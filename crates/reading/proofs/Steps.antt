@@ -17,7 +17,6 @@ use Rattle.terms.specs.declared.Mode.TheVariants.{Out}
 use Rattle.terms.specs.declared.Found.{Found}
 use Rattle.terms.specs.declared.Found.TheVariants as found
 use Rattle.terms.specs.Signs.{Sign, signs}
-use Rattle.terms.specs.Terms.{Term}
 use Rattle.terms.specs.Scan.{term_at}
 use Rattle.terms.proofs.SignBytes.{raws_signs}
 use Rattle.terms.proofs.NextTerm.{terms_some, terms_none, term_within, term_size}
@@ -32,7 +31,7 @@ use Rattle.reading.specs.declared.Offer as declared
 use Rattle.reading.specs.declared.Offer.TheVariants as offer
 use Rattle.reading.specs.declared.Step.{Step}
 use Rattle.reading.specs.Command.{Item, verb, option, argument, target, prop, shown_of}
-use Rattle.reading.specs.Reading.{state, is_help, Decision, refuses, takes, decide_in, decide, next, Part, refusal, read, adding, ended, form_asked, past_start, place_of, going, walk_terms}
+use Rattle.reading.specs.Reading.{is_help, Decision, refuses, takes, decide_in, decide, next, refusal, read, adding, ended, form_asked, past_start, place_of, going, walk_terms}
 use Rattle.reading.specs.Cursor.{decided_of, next_shown, cursor, step, term_in, offer_on, offer_end, offer_at, offer_of, cursor_after, step_of, left}
 use Rattle.reading.specs.Shown.{name_size, counted}
 use Rattle.reading.proofs.TakenCases.{taken_case}

@@ -1,13 +1,13 @@
 -- The reading as the code goes: a line by the word that it begins with; then line by line, each record written behind those before it.
-use Rattle.std.specs.Prelude.{ℕ, suc, ◌+◌, ◌-◌, ◌*◌, ◌<◌, ◌≤◌, List, [], ◌∷◌, Bool, cond, not, ◌&&◌, length, take, drop, eqb, leb}
+use Rattle.std.specs.Prelude.{ℕ, ◌+◌, ◌-◌, ◌*◌, ◌<◌, ◌≤◌, List, [], ◌∷◌, cond, length, drop}
 use Rattle.std.proofs.Math.Option.{Option, none, some}
 use Rattle.std.proofs.lemmas.List.Edits.{sets}
 use Rattle.text.specs.declared.Answer.{Answer}
 use Rattle.text.specs.declared.Answer.TheVariants as answers
-use Rattle.text.specs.Bytes.{same_bytes, is_letter, is_word}
-use Rattle.text.specs.Lists.{run_len, up_to}
+use Rattle.text.specs.Bytes.{same_bytes}
+use Rattle.text.specs.Lists.{up_to}
 use Rattle.replies.specs.declared.Form.{Form}
-use Rattle.replies.specs.declared.Form.TheVariants.{Nothing, Item, Group, Close, End, Wrong, Open}
+use Rattle.replies.specs.declared.Form.TheVariants.{Close, End, Wrong}
 use Rattle.replies.specs.declared.Closed.{Closed}
 use Rattle.replies.specs.declared.Closed.TheVariants.{After, Never}
 use Rattle.replies.specs.declared.Step.{Step}

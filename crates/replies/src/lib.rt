@@ -326,7 +326,7 @@ fn put_item(out: &mut [u8], w: usize, p: usize, k: usize, v: usize) -> usize
         low(v),
     ];
     text::copy(out, w, &t);
-    w + words::record_len(64)
+    w + words::reply_record_len(64)
 }
 
 // A group whose line begins at p.
@@ -337,7 +337,7 @@ fn put_group(out: &mut [u8], w: usize, p: usize, n: usize) -> usize
     let q = p + 11;
     let t = [65, high(q), low(q), high(n), low(n)];
     text::copy(out, w, &t);
-    w + words::record_len(65)
+    w + words::reply_record_len(65)
 }
 
 // ---- a line in its place
@@ -391,7 +391,7 @@ fn line(s: &[u8], at: usize, depth: usize, out: &mut [u8], w: usize) -> Step
             text::put(out, w, 66);
             Step::Shut {
                 at: past_end(s, at + 8),
-                w: w + words::record_len(66),
+                w: w + words::reply_record_len(66),
             }
         }
         Form::End => {
@@ -403,7 +403,7 @@ fn line(s: &[u8], at: usize, depth: usize, out: &mut [u8], w: usize) -> Step
             }
             text::put(out, w, 67);
             Step::Ended {
-                w: w + words::record_len(67),
+                w: w + words::reply_record_len(67),
             }
         }
         Form::Wrong => Step::Refused {

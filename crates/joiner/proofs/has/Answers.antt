@@ -1,4 +1,3 @@
-use Prim.Native.Nat.{◌-◌}
 use native.Mathlib.Omega.{arith}
 use Rattle.joiner.proofs.Blocks.{has_more}
 use Rattle.joiner.proofs.has.Goals as goal

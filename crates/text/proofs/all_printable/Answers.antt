@@ -1,4 +1,3 @@
-use Prim.Native.Nat.{◌-◌}
 use mathlib.Core.Path.{sym, ◌∙◌}
 use Rattle.text.specs.Bytes.{printable}
 use Rattle.text.proofs.Scans.{all_kept, all_ended}

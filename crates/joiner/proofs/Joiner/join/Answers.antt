@@ -1,9 +1,8 @@
-use Prim.Native.Nat.{◌-◌}
 use native.Mathlib.Omega.{arith}
 use mathlib.Core.Path.{ap, refl, sym, ◌∙◌}
 use Rattle.joiner.specs.Join.{join_of}
 use mathlib.Core.Logic.{⊎_elim}
-use Rattle.joiner.proofs.Laws.{is_more, fits_length, fits_state, turn_more, turn_stop, tag_more, tag_stop, answered, run_end_lem}
+use Rattle.joiner.proofs.Laws.{is_more, fits_length, fits_state, turn_more, turn_stop, answered, run_end_lem}
 use Rattle.joiner.proofs.Reach.{step_reachable}
 use Rattle.joiner.proofs.Joiner.join.Goals as goal
 

@@ -18,7 +18,7 @@ unfolding reachable
 returns-then-self-3 c =
     let h = le-leb _ _ c.if-held-gt1024.false in
     elim c.if-self.branch [
-      then-self+else-held-lt1024 w ↦ simp (h, c.if-self-2.true, c.if-self-3.true, w.if-self.true, le-leb _ _ w.if-held-lt1024.false)
+      | then-self+else-held-lt1024 w ↦ simp (h, c.if-self-2.true, c.if-self-3.true, w.if-self.true, le-leb _ _ w.if-held-lt1024.false)
       | else-self w ↦ simp (h, c.if-self-2.true, c.if-self-3.true, w.if-self.false)
     ]
 
@@ -27,7 +27,7 @@ unfolding reachable
 returns-else-self-3 c =
     let h = le-leb _ _ c.if-held-gt1024.false in
     elim c.if-self.branch [
-      then-self+else-held-lt1024 w ↦ simp (h, c.if-self-2.true, c.if-self-3.false, w.if-self.true, le-leb _ _ w.if-held-lt1024.false)
+      | then-self+else-held-lt1024 w ↦ simp (h, c.if-self-2.true, c.if-self-3.false, w.if-self.true, le-leb _ _ w.if-held-lt1024.false)
       | else-self w ↦ simp (h, c.if-self-2.true, c.if-self-3.false, w.if-self.false)
     ]
 
@@ -36,6 +36,6 @@ unfolding reachable
 returns-else-self-2 c =
     let h = le-leb _ _ c.if-held-gt1024.false in
     elim c.if-self.branch [
-      then-self+else-held-lt1024 w ↦ simp (h, c.if-self-2.false, w.if-self.true, le-leb _ _ w.if-held-lt1024.false)
+      | then-self+else-held-lt1024 w ↦ simp (h, c.if-self-2.false, w.if-self.true, le-leb _ _ w.if-held-lt1024.false)
       | else-self w ↦ simp (h, c.if-self-2.false, w.if-self.false)
     ]

@@ -1,0 +1,14 @@
+-- `tree::parent` meets its contract.
+use borrow.Author.Rules.{rules}
+use native.Mathlib.Omega.{arith}
+use Rattle.tree.proofs.UpLaws.{node_whole, parent_read, parent_lower}
+use Rattle.tree.proofs.parent.Goals as goal
+
+pub bounds-t-p : goal.bounds-t-p
+bounds-t-p c = let a = c in omega (arith, node_whole a.args.t.now a.args.k a.requires.0 a.requires.1 a.requires.2)
+
+pub bounds-t-p-2 : goal.bounds-t-p-2
+bounds-t-p-2 c = let a = c in omega (arith, node_whole a.args.t.now a.args.k a.requires.0 a.requires.1 a.requires.2)
+
+pub returns : goal.returns
+returns c = (search (parent_read, rules), search (parent_lower, rules))
