@@ -1,5 +1,5 @@
 -- The C face: what each exported function answers, in numbers. Number 0 and a value, or a refusal's number and its place.
-use Rattle.std.specs.Prelude.{ℕ, List, cond, length, ltb}
+use Rattle.std.specs.Prelude.{ℕ, List, cond, ltb}
 use Rattle.text.specs.declared.Answer.{Answer}
 use Rattle.text.specs.declared.Answer.TheVariants as answer
 use Rattle.joiner.specs.declared.Joined.{Joined}
