@@ -11,7 +11,7 @@ use lib.ListN.{length, length-append}
 use Rattle.text.specs.Lists.{all_of}
 use Rattle.text.specs.declared.Verdict.TheVariants.{Fine, Flawed}
 use Rattle.text.proofs.Tests.{and_l, and_r, and_in, no_case}
-use Rattle.words.specs.Words.{record_len}
+use Rattle.words.specs.Words.{reply_record_len}
 use Rattle.replies.specs.Lines.{lines_of}
 use Rattle.replies.specs.Order.{Turn, judge, on_turn}
 use Rattle.replies.specs.Reading.{turn_of, verdict_of}
@@ -82,10 +82,10 @@ asked_back : (k p : ℕ) (t r : List ℕ) (d e e' q : ℕ) → judge d e (turns_
 unfolding asked_from told_asked turns_from judge
 asked_back k p t [] d e e' q h = flawed_fine 25 e h
 asked_back (suc k) p t (b ∷ r) d e e' q h = asked_back k (suc p) t r d e e' q h
-asked_back zero p t (b ∷ r) d e e' q h = go (record_told t (b ∷ r)) (λ n j. asked_back (record_len b - 1) (suc p) t r n e e' j) h
+asked_back zero p t (b ∷ r) d e e' q h = go (record_told t (b ∷ r)) (λ n j. asked_back (reply_record_len b - 1) (suc p) t r n e e' j) h
   where
     rest : List Asked
-    rest = asked_from (record_len b - 1) (suc p) t r
+    rest = asked_from (reply_record_len b - 1) (suc p) t r
 
     left : (x : Bool) → ((n j : ℕ) → judge n e (turns_from j (told_asked rest)) ≡ Fine → judge n e' (map turn_asked rest) ≡ Fine)
         → (n j : ℕ) → judge n e (turns_from j (told_asked (cond x [] rest))) ≡ Fine → judge n e' (map turn_asked (cond x [] rest)) ≡ Fine

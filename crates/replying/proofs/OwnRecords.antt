@@ -11,7 +11,7 @@ use lib.ListN.{length, take, drop, length-drop}
 use lib.Seq.{take-take, drop-drop}
 use Rattle.text.specs.Room.{be16}
 use Rattle.text.proofs.Slices.{drop_take}
-use Rattle.words.specs.Words.{bodies, body_of, record_len}
+use Rattle.words.specs.Words.{reply_record_len}
 use Rattle.replies.specs.declared.Form.{Form}
 use Rattle.replies.specs.declared.Form.TheVariants.{Nothing, Item, Group, Close, End, Wrong, Open}
 use Rattle.replies.specs.Lines.{form_of, text_len, line_len, Line, is_last, lines_from, lines_of}
@@ -34,20 +34,16 @@ two_bytes : (n : ℕ) → be16 (n / 256) (n % 256) ≡ n
 two_bytes n = omega arith
 
 -- how long the records of a reply are
-item_len : record_len 64 ≡ 9
-unfolding record_len body_of bodies
+item_len : reply_record_len 64 ≡ 9
 item_len = refl
 
-group_len : record_len 65 ≡ 5
-unfolding record_len body_of bodies
+group_len : reply_record_len 65 ≡ 5
 group_len = refl
 
-close_len : record_len 66 ≡ 1
-unfolding record_len body_of bodies
+close_len : reply_record_len 66 ≡ 1
 close_len = refl
 
-end_len_lem : record_len 67 ≡ 1
-unfolding record_len body_of bodies
+end_len_lem : reply_record_len 67 ≡ 1
 end_len_lem = refl
 
 module _ (s : List ℕ) (p : ℕ) (r : List ℕ) where
@@ -93,10 +89,10 @@ module _ (t : List ℕ) (x : List ℕ) (p q : ℕ) (ls : List Line) (ih : (q : �
   unfolding asked_from told_asked told_in
   line_own (Nothing n) e h l = ih q
   line_own (Item k v) e h l =
-      rw (item_told t p (records_of ls) k v h, item_len) (rw (key_there t p x k v e, value_there t p x k v e) (ap (λ (us : List Told). item (take k x) (plain_of (drop (k + 1) x)) ∷ us) (ih _)))
+      rw (item_told t p (records_of ls) k v h) (rw (key_there t p x k v e, value_there t p x k v e) (ap (λ (us : List Told). item (take k x) (plain_of (drop (k + 1) x)) ∷ us) (ih _)))
   line_own (Group n) e h l =
-      rw (group_told t p (records_of ls) n h, group_len) (rw (type_there t p x n e) (ap (λ (us : List Told). group (drop 11 x) ∷ us) (ih _)))
-  line_own Close e h l = rw (close_told t p (records_of ls), close_len) (ap (λ (us : List Told). endgroup ∷ us) (ih _))
+      rw (group_told t p (records_of ls) n h) (rw (type_there t p x n e) (ap (λ (us : List Told). group (drop 11 x) ∷ us) (ih _)))
+  line_own Close e h l = rw (close_told t p (records_of ls)) (ap (λ (us : List Told). endgroup ∷ us) (ih _))
   line_own End e h l = rw (end_told t p (records_of ls)) (sym (ap (λ (ks : List Line). endoutput ∷ told_in ks) (l refl)))
   line_own Wrong e h l = ih q
   line_own Open e h l = ih q

@@ -13,7 +13,7 @@ use Rattle.text.specs.declared.Verdict.{Verdict}
 use Rattle.text.specs.declared.Verdict.TheVariants.{Fine, Flawed}
 use Rattle.text.proofs.Tests.{and_l, and_r, and_in}
 use Rattle.text.proofs.Options.{none_some}
-use Rattle.words.specs.Words.{record_len}
+use Rattle.words.specs.Words.{reply_record_len}
 use Rattle.forms.specs.Forms.{is_name}
 use Rattle.replies.specs.Lines.{is_keyword, lines_of}
 use Rattle.replies.specs.Order.{opens, closes, judge, on_turn}
@@ -116,10 +116,10 @@ pub asked_end : (k p : ℕ) (t r : List ℕ) → to_end (told_asked (asked_from 
 unfolding asked_from told_asked to_end
 asked_end k p t [] = refl
 asked_end (suc k) p t (b ∷ r) = asked_end k (suc p) t r
-asked_end zero p t (b ∷ r) = go (record_told t (b ∷ r)) (asked_end (record_len b - 1) (suc p) t r)
+asked_end zero p t (b ∷ r) = go (record_told t (b ∷ r)) (asked_end (reply_record_len b - 1) (suc p) t r)
   where
     rest : List Asked
-    rest = asked_from (record_len b - 1) (suc p) t r
+    rest = asked_from (reply_record_len b - 1) (suc p) t r
 
     go : (o : Option Told) → to_end (told_asked rest) ≡ told_asked rest → to_end (with_told o (told_asked (cond (is_final o) [] rest))) ≡ with_told o (told_asked (cond (is_final o) [] rest))
     go none ih = refl

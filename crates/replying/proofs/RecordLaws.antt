@@ -15,7 +15,7 @@ use Rattle.text.specs.Lists.{given}
 use Rattle.text.proofs.Scans.{drop_step}
 use Rattle.text.proofs.Slices.{part_from, part_between, length_part}
 use Rattle.text.proofs.Tests.{no_case}
-use Rattle.words.specs.Words.{bodies, body_of, record_len}
+use Rattle.words.specs.Words.{reply_record_len}
 use Rattle.replies.specs.Items.{Told, item, group, endgroup, endoutput}
 use Rattle.replying.specs.declared.Cue.{Cue}
 use Rattle.replying.specs.declared.Cue.TheVariants.{Item, Group, Close, End, Bad}
@@ -61,24 +61,22 @@ module _ (t r : List ℕ) (k m : ℕ) (p : k ≡ field_at r 1) (q : m ≡ field_
     item_told g = sym (item_by ∙ ap (λ (x : Option (List ℕ)). given x (λ (y : List ℕ). some (item (take m (drop k t)) y))) (part_held t v n g))
 
 -- how long it is, by its kind
-pub item_len : (k : ℕ) → k ≡ 64 → record_len k ≡ 9
-unfolding record_len body_of bodies
+pub item_len : (k : ℕ) → k ≡ 64 → reply_record_len k ≡ 9
 item_len k e = rw e
 
-pub group_len : (k : ℕ) → k ≡ 65 → record_len k ≡ 5
-unfolding record_len body_of bodies
+pub group_len : (k : ℕ) → k ≡ 65 → reply_record_len k ≡ 5
 group_len k e = rw e
 
 -- cut, or of some kind, or of none
 module _ (t r : List ℕ) where
-  pub told_cut : length r < record_len (get_or r 0 0) → none ≡ record_told t r
+  pub told_cut : length r < reply_record_len (get_or r 0 0) → none ≡ record_told t r
   unfolding record_told
-  told_cut h = rw (lt-leb (record_len (get_or r 0 0)) (length r) h)
+  told_cut h = rw (lt-leb (reply_record_len (get_or r 0 0)) (length r) h)
 
-  module _ (h : record_len (get_or r 0 0) ≤ length r) where
+  module _ (h : reply_record_len (get_or r 0 0) ≤ length r) where
     told_whole : told_by_kind t r (get_or r 0 0) ≡ record_told t r
     unfolding record_told
-    told_whole = rw (le-leb (record_len (get_or r 0 0)) (length r) h)
+    told_whole = rw (le-leb (reply_record_len (get_or r 0 0)) (length r) h)
 
     pub told_kind : (k : ℕ) → get_or r 0 0 ≡ k → told_by_kind t r k ≡ record_told t r
     told_kind k e = sym (ap (told_by_kind t r) e) ∙ told_whole
@@ -90,26 +88,26 @@ module _ (t r : List ℕ) where
         ∙ told_whole
 
 -- one that is not the last is of a kind with a length, and is not cut
-final_len : (t r : List ℕ) (k : ℕ) → is_final (told_by_kind t r k) ≡ false → 1 ≤ record_len k
+final_len : (t r : List ℕ) (k : ℕ) → is_final (told_by_kind t r k) ≡ false → 1 ≤ reply_record_len k
 final_len t r k e = go (eqb k 64) (eqb k 65) (eqb k 66) (eqb k 67) refl refl refl refl
   where
-    by : (n : ℕ) → eqb k n ≡ true → 1 ≤ record_len n → 1 ≤ record_len k
+    by : (n : ℕ) → eqb k n ≡ true → 1 ≤ reply_record_len n → 1 ≤ reply_record_len k
     by n p h = rw (eqb-true k n p) h
 
-    go : (a b c d : Bool) → eqb k 64 ≡ a → eqb k 65 ≡ b → eqb k 66 ≡ c → eqb k 67 ≡ d → 1 ≤ record_len k
-    go true b c d p q u v = by 64 p (unfold record_len body_of bodies in omega arith)
-    go false true c d p q u v = by 65 q (unfold record_len body_of bodies in omega arith)
-    go false false true d p q u v = by 66 u (unfold record_len body_of bodies in omega arith)
-    go false false false true p q u v = by 67 v (unfold record_len body_of bodies in omega arith)
+    go : (a b c d : Bool) → eqb k 64 ≡ a → eqb k 65 ≡ b → eqb k 66 ≡ c → eqb k 67 ≡ d → 1 ≤ reply_record_len k
+    go true b c d p q u v = by 64 p (omega arith)
+    go false true c d p q u v = by 65 q (omega arith)
+    go false false true d p q u v = by 66 u (omega arith)
+    go false false false true p q u v = by 67 v (omega arith)
     go false false false false p q u v = no_case (rw (p, q, u, v) at e)
 
-record_within : (t r : List ℕ) → is_final (record_told t r) ≡ false → (1 ≤ record_len (get_or r 0 0)) × (record_len (get_or r 0 0) ≤ length r)
+record_within : (t r : List ℕ) → is_final (record_told t r) ≡ false → (1 ≤ reply_record_len (get_or r 0 0)) × (reply_record_len (get_or r 0 0) ≤ length r)
 unfolding record_told
-record_within t r e = go (leb (record_len (get_or r 0 0)) (length r)) refl e
+record_within t r e = go (leb (reply_record_len (get_or r 0 0)) (length r)) refl e
   where
-    go : (b : Bool) → leb (record_len (get_or r 0 0)) (length r) ≡ b → is_final (cond b (told_by_kind t r (get_or r 0 0)) none) ≡ false
-        → (1 ≤ record_len (get_or r 0 0)) × (record_len (get_or r 0 0) ≤ length r)
-    go true p q = (final_len t r (get_or r 0 0) q, leb-true (record_len (get_or r 0 0)) (length r) p)
+    go : (b : Bool) → leb (reply_record_len (get_or r 0 0)) (length r) ≡ b → is_final (cond b (told_by_kind t r (get_or r 0 0)) none) ≡ false
+        → (1 ≤ reply_record_len (get_or r 0 0)) × (reply_record_len (get_or r 0 0) ≤ length r)
+    go true p q = (final_len t r (get_or r 0 0) q, leb-true (reply_record_len (get_or r 0 0)) (length r) p)
     go false p q = no_case q
 
 -- ---- by where its parts stand
@@ -164,22 +162,22 @@ module _ (r t : List ℕ) (at : ℕ) (h : at < length r) (o : Option Told) (e : 
   told_is : record_told t (drop at r) ≡ o
   told_is = sym (e ∙ ap (record_told t) (part_from r at))
 
-  pub asked_front : asked_from 0 at t (drop at r) ≡ asked at o ∷ cond (is_final o) [] (asked_from (record_len (get_or r at 0) - 1) (suc at) t (drop (at + 1) r))
+  pub asked_front : asked_from 0 at t (drop at r) ≡ asked at o ∷ cond (is_final o) [] (asked_from (reply_record_len (get_or r at 0) - 1) (suc at) t (drop (at + 1) r))
   unfolding asked_from
   asked_front =
       let s = drop_step r at h in
       let x : record_told t (get_or r at 0 ∷ drop (at + 1) r) ≡ o = sym (ap (record_told t) s) ∙ told_is in
       ap (asked_from 0 at t) s
-      ∙ ap (λ (z : Option Told). asked at z ∷ cond (is_final z) [] (asked_from (record_len (get_or r at 0) - 1) (suc at) t (drop (at + 1) r))) x
+      ∙ ap (λ (z : Option Told). asked at z ∷ cond (is_final z) [] (asked_from (reply_record_len (get_or r at 0) - 1) (suc at) t (drop (at + 1) r))) x
 
   pub asked_last : is_final o ≡ true → asked_from 0 at t (drop at r) ≡ asked at o ∷ []
-  asked_last f = asked_front ∙ ap (λ (b : Bool). asked at o ∷ cond b [] (asked_from (record_len (get_or r at 0) - 1) (suc at) t (drop (at + 1) r))) f
+  asked_last f = asked_front ∙ ap (λ (b : Bool). asked at o ∷ cond b [] (asked_from (reply_record_len (get_or r at 0) - 1) (suc at) t (drop (at + 1) r))) f
 
-  module _ (n : ℕ) (l : n ≡ record_len (get_or r at 0)) (f : is_final o ≡ false) where
+  module _ (n : ℕ) (l : n ≡ reply_record_len (get_or r at 0)) (f : is_final o ≡ false) where
     pub asked_within : (1 ≤ n) × (at + n ≤ length r)
     asked_within =
         let w = record_within t (drop at r) (ap is_final told_is ∙ f) in
-        let g : record_len (get_or (drop at r) 0 0) ≡ n = ap record_len (get_or-drop at r 0 0 ∙ (let z : at + 0 ≡ at = omega arith in ap (λ (i : ℕ). get_or r i 0) z)) ∙ sym l in
+        let g : reply_record_len (get_or (drop at r) 0 0) ≡ n = ap reply_record_len (get_or-drop at r 0 0 ∙ (let z : at + 0 ≡ at = omega arith in ap (λ (i : ℕ). get_or r i 0) z)) ∙ sym l in
         (omega (arith, w.0), omega (arith, w.1, length-drop at r))
 
     pub asked_next : asked_from 0 at t (drop at r) ≡ asked at o ∷ asked_from 0 (at + n) t (drop (at + n) r)
@@ -188,7 +186,7 @@ module _ (r t : List ℕ) (at : ℕ) (h : at < length r) (o : Option Told) (e : 
         let p : suc at + (n - 1) ≡ at + n = omega arith in
         let q : at + 1 + (n - 1) ≡ at + n = omega arith in
         asked_front
-        ∙ ap (λ (b : Bool). asked at o ∷ cond b [] (asked_from (record_len (get_or r at 0) - 1) (suc at) t (drop (at + 1) r))) f
+        ∙ ap (λ (b : Bool). asked at o ∷ cond b [] (asked_from (reply_record_len (get_or r at 0) - 1) (suc at) t (drop (at + 1) r))) f
         ∙ ap (λ (m : ℕ). asked at o ∷ asked_from (m - 1) (suc at) t (drop (at + 1) r)) (sym l)
         ∙ ap (λ (z : List Asked). asked at o ∷ z) (asked_skip (n - 1) (suc at) t (drop (at + 1) r))
         ∙ ap (λ (m : ℕ). asked at o ∷ asked_from 0 m t (drop (n - 1) (drop (at + 1) r))) p

@@ -21,7 +21,7 @@ use Rattle.replies.specs.Order.{Turn, passes, opens, closes, ends, wrong, unclos
 use Rattle.replies.specs.Items.{Told, item, group, endgroup, endoutput}
 use Rattle.replying.specs.declared.Led.{Led}
 use Rattle.replying.specs.declared.Led.TheVariants.{On, Done, Refused}
-use Rattle.words.specs.Words.{record_len}
+use Rattle.words.specs.Words.{reply_record_len}
 use Rattle.replying.specs.Records.{record_told, is_final, Asked, asked_from, asked_of}
 use Rattle.replying.specs.Writing.{writing_of, turn_told, turn_or_wrong, turn_asked, told_asked, asked_verdict, verdict_then, size_verdict, written_by, write_verdict, write_answer, write_room}
 use Rattle.replying.specs.Steps.{line_told, led_by, capped, sized, weighed}
@@ -203,7 +203,7 @@ weigh_none d e n = refl
 
 module _ (r t : List ℕ) (at : ℕ) (h : at < length r) (o : Option Told) (e : o ≡ record_told t (take (length r - at) (drop at r))) where
   -- one that goes on: the next one's place
-  module _ (d k : ℕ) (l : On k ≡ led_by (turn_or_wrong o) d) (z : ℕ) (f : z ≡ record_len (get_or r at 0)) where
+  module _ (d k : ℕ) (l : On k ≡ led_by (turn_or_wrong o) d) (z : ℕ) (f : z ≡ reply_record_len (get_or r at 0)) where
     pub turn_within : (1 ≤ z) × (at + z ≤ length r)
     turn_within = asked_within r t at h o e z f (led_on o d k l)
 
@@ -215,7 +215,7 @@ module _ (r t : List ℕ) (at : ℕ) (h : at < length r) (o : Option Told) (e : 
     pub turn_done : Done ≡ led_by (turn_or_wrong o) d → (m : ℕ) → m ≡ capped n (length (line_told o)) → sized m ≡ a
     turn_done l m c = weigh_done d (length r) n at o l m c ∙ sym (ap (weighed d (length r) n) (asked_last r t at h o e (led_last o d l))) ∙ inv
 
-    pub turn_on : (k : ℕ) → On k ≡ led_by (turn_or_wrong o) d → (z : ℕ) → z ≡ record_len (get_or r at 0) → (m : ℕ) → m ≡ capped n (length (line_told o))
+    pub turn_on : (k : ℕ) → On k ≡ led_by (turn_or_wrong o) d → (z : ℕ) → z ≡ reply_record_len (get_or r at 0) → (m : ℕ) → m ≡ capped n (length (line_told o))
         → weighed k (length r) m (asked_from 0 (at + z) t (drop (at + z) r)) ≡ a
     turn_on k l z f m c =
         weigh_on d (length r) n at o (asked_from 0 (at + z) t (drop (at + z) r)) k l m c
@@ -228,7 +228,7 @@ module _ (r t : List ℕ) (at : ℕ) (h : at < length r) (o : Option Told) (e : 
     pub put_last : is_final o ≡ true → out' ≡ s
     put_last f = q ∙ sym (ap (sets out w) (ap (λ (z : List Asked). writing_of (told_asked z)) (asked_last r t at h o e f) ∙ writing_one at o)) ∙ inv
 
-    pub put_next : is_final o ≡ false → (z : ℕ) → z ≡ record_len (get_or r at 0) → (n : ℕ) → w + length (writing_of (told_asked (asked_from 0 at t (drop at r)))) ≡ n
+    pub put_next : is_final o ≡ false → (z : ℕ) → z ≡ reply_record_len (get_or r at 0) → (n : ℕ) → w + length (writing_of (told_asked (asked_from 0 at t (drop at r)))) ≡ n
         → (sets out' w' (writing_of (told_asked (asked_from 0 (at + z) t (drop (at + z) r)))) ≡ s)
         × (w' + length (writing_of (told_asked (asked_from 0 (at + z) t (drop (at + z) r)))) ≡ n)
     put_next f z g n len =

@@ -3,7 +3,7 @@ use Rattle.std.specs.Prelude.{ℕ, zero, suc, ◌+◌, ◌-◌, List, [], ◌∷
 use Rattle.std.proofs.Math.Option.{Option, none, some}
 use Rattle.text.specs.Lists.{given}
 use Rattle.text.specs.Room.{be16}
-use Rattle.words.specs.Words.{record_len}
+use Rattle.words.specs.Words.{reply_record_len}
 use Rattle.replies.specs.Items.{Told, item, group, endgroup, endoutput}
 
 -- a part of the text, by the position and the length that stand at a place of a record; none where it reaches past the text
@@ -26,7 +26,7 @@ told_by_kind t r k =
 
 -- the record that r begins with; none where it is cut
 unfoldable pub record_told : List ℕ → List ℕ → Option Told
-record_told t r = cond (leb (record_len (get_or r 0 0)) (length r)) (told_by_kind t r (get_or r 0 0)) none
+record_told t r = cond (leb (reply_record_len (get_or r 0 0)) (length r)) (told_by_kind t r (get_or r 0 0)) none
 
 -- nothing is looked at after kind 67, nor after a bad record
 abbrev pub is_final : Option Told → Bool
@@ -49,7 +49,7 @@ unfoldable pub asked_from : ℕ → ℕ → List ℕ → List ℕ → List Asked
 asked_from skip p t [] = []
 asked_from (suc skip) p t (b ∷ r) = asked_from skip (suc p) t r
 asked_from zero p t (b ∷ r) =
-    let rest = asked_from (record_len b - 1) (suc p) t r in
+    let rest = asked_from (reply_record_len b - 1) (suc p) t r in
     asked_at p t (b ∷ r) ∷ cond (is_final (record_told t (b ∷ r))) [] rest
 
 unfoldable pub asked_of : List ℕ → List ℕ → List Asked

@@ -6,7 +6,7 @@ ghost use Rattle.std.proofs.lemmas.List.Edits.{sets};
 ghost use Rattle.text.specs.Lists.{any_of};
 ghost use Rattle.terms.specs.Signs.{raw, raws};
 ghost use Rattle.terms.specs.Quotes.{in_quotes, closing};
-ghost use Rattle.words.specs.Words.{record_len};
+ghost use Rattle.words.specs.Words.{reply_record_len};
 ghost use Rattle.replies.specs.Lines.{begins, is_end, is_quote};
 ghost use Rattle.replies.specs.Items.{item, group, endgroup, endoutput};
 ghost use Rattle.replying.specs.Records.{field_at, told_by_kind, record_told, asked_of};
@@ -53,16 +53,16 @@ fn field(rec: &[u8], at: usize) -> usize
     pair(rec[at], rec[at + 1])
 }
 
-// How long a whole record is, by its kind. Those of a reply are asked for one by one: so the table of kinds is read when this is compiled.
+// How long a whole record is, by its kind. Those of a reply are asked for one by one: so each is known when this is compiled.
 fn len_of(kind: u8) -> usize
-    ensures { result ≡ record_len kind }
+    ensures { result ≡ reply_record_len kind }
 {
     match kind {
-        64 => words::record_len(64),
-        65 => words::record_len(65),
-        66 => words::record_len(66),
-        67 => words::record_len(67),
-        _ => words::record_len(kind),
+        64 => words::reply_record_len(64),
+        65 => words::reply_record_len(65),
+        66 => words::reply_record_len(66),
+        67 => words::reply_record_len(67),
+        _ => words::reply_record_len(kind),
     }
 }
 

@@ -4,7 +4,6 @@ use mathlib.Core.Path.{◌≡◌, refl}
 use mathlib.Core.List.{List, [], ◌∷◌, map}
 use Rattle.text.specs.Bytes.{bytes}
 use Rattle.text.specs.Decimal.{width, digits}
-use Rattle.words.specs.Words.{record_len, body_of, bodies}
 use Rattle.wording.specs.Words.{fields_text}
 use Rattle.replytext.specs.Text.{reply_forms, reply_form, reply_text}
 
@@ -19,5 +18,5 @@ records =
     ∷ []
 
 pub texts : map reply_text records ≡ bytes "item 24 4 285 65535\n" ∷ bytes "group 20 3\n" ∷ bytes "endgroup\n" ∷ bytes "endoutput\n" ∷ [] ∷ [] ∷ []
-unfolding bytes width digits record_len body_of bodies fields_text reply_forms reply_form reply_text
+unfolding bytes width digits fields_text reply_forms reply_form reply_text
 texts = refl

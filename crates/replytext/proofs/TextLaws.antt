@@ -14,7 +14,7 @@ use Rattle.text.specs.Decimal.{digits}
 use Rattle.text.specs.Room.{be16}
 use Rattle.text.proofs.Decimals.{length_digits, width_between}
 use Rattle.text.proofs.Writes.{sets_append}
-use Rattle.words.specs.Words.{record_len, body_of, bodies}
+use Rattle.words.specs.Words.{reply_record_len}
 use Rattle.wording.specs.Words.{Form, fields_text}
 use Rattle.replytext.specs.Text.{reply_forms, reply_form, text_by, reply_text}
 
@@ -81,20 +81,20 @@ step o n rest w v o' e q = sym (sets_append n rest o w) ∙ rw (e, q)
 -- ---- by kind
 
 -- a record that was found whole
-pub kept : (r : List ℕ) (k n : ℕ) → n ≡ record_len (get_or r 0 0) → get_or r 0 0 ≡ k → n ≤ length r → record_len k ≤ length r
-kept r k n e q h = omega (arith, ap record_len q)
+pub kept : (r : List ℕ) (k n : ℕ) → n ≡ reply_record_len (get_or r 0 0) → get_or r 0 0 ≡ k → n ≤ length r → reply_record_len k ≤ length r
+kept r k n e q h = omega (arith, ap reply_record_len q)
 
 module _ (r : List ℕ) (k : ℕ) (is : get_or r 0 0 ≡ k) where
-  pub cut_text_lem : length r < record_len k → [] ≡ reply_text r
+  pub cut_text_lem : length r < reply_record_len k → [] ≡ reply_text r
   unfolding reply_text
-  cut_text_lem h = rw (is, lt-leb (record_len k) (length r) h)
+  cut_text_lem h = rw (is, lt-leb (reply_record_len k) (length r) h)
 
-  pub whole_text : record_len k ≤ length r → text_by (reply_form k) (drop 1 r) ≡ reply_text r
+  pub whole_text : reply_record_len k ≤ length r → text_by (reply_form k) (drop 1 r) ≡ reply_text r
   unfolding reply_text
-  whole_text h = rw (is, le-leb (record_len k) (length r) h)
+  whole_text h = rw (is, le-leb (reply_record_len k) (length r) h)
 
 pub no_text : (r : List ℕ) → length r ≡ 0 → [] ≡ reply_text r
-unfolding reply_text reply_form reply_forms record_len body_of bodies
+unfolding reply_text reply_form reply_forms
 no_text [] h = refl
 no_text (b ∷ r) h = absurd (omega arith)
 

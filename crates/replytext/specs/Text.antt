@@ -2,7 +2,7 @@
 use Rattle.std.specs.Prelude.{ℕ, ◌-◌, List, [], ◌∷◌, cond, length, get_or, drop, leb, ltb}
 use Rattle.std.proofs.Math.Option.{Option, none, some}
 use Rattle.text.specs.Bytes.{bytes}
-use Rattle.words.specs.Words.{record_len}
+use Rattle.words.specs.Words.{reply_record_len}
 use Rattle.wording.specs.Words.{Form, form, record_text}
 
 -- 64 item: keyword position, length, value position, length. 65 group: type position, length. 66 `endgroup`, 67 `endoutput`: no body.
@@ -18,4 +18,4 @@ text_by (some f) s = record_text f s
 
 -- the text of the record that some bytes begin with; none where a reply has no such kind, or it is cut
 unfoldable pub reply_text : List ℕ → List ℕ
-reply_text r = cond (leb (record_len (get_or r 0 0)) (length r)) (text_by (reply_form (get_or r 0 0)) (drop 1 r)) []
+reply_text r = cond (leb (reply_record_len (get_or r 0 0)) (length r)) (text_by (reply_form (get_or r 0 0)) (drop 1 r)) []

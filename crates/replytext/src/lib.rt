@@ -53,7 +53,7 @@ pub fn record_text(rec: &[u8], out: &mut [u8]) -> usize
         return 0;
     }
     let kind = rec[0];
-    if rec.len() < words::record_len(kind) {
+    if rec.len() < words::reply_record_len(kind) {
         return 0;
     }
     match kind {

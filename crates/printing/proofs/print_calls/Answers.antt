@@ -1,10 +1,6 @@
-use mathlib.Core.Path.{◌≡◌, refl, sym, ◌∙◌}
-use mathlib.Core.Bool.{true}
-use Prim.Native.Nat.{◌-◌}
+use mathlib.Core.Path.{refl, sym, ◌∙◌}
 use native.Mathlib.Omega.{arith}
-use lib.ListN.{length}
-use Rattle.printing.specs.Printing.{may_call}
-use Rattle.printing.proofs.LoopLaws.{turn_start, turn_room, Counts, turn_counts, turn_on, turn_end}
+use Rattle.printing.proofs.LoopLaws.{turn_start, turn_room, turn_counts, turn_on, turn_end}
 use Rattle.printing.proofs.print_calls.Goals as goal
 
 pub loop-buffer-init : goal.loop-buffer-init
