@@ -62,7 +62,7 @@ fn len_at(records: &[u8], at: usize) -> usize
     ensures { (0 < result) × (at + result ≤ length records.now) }
 {
     let left = records.len() - at;
-    let n = words::record_len(records[at]);
+    let n = words::reply_record_len(records[at]);
     if n == 0 {
         return left;
     }
