@@ -1,25 +1,14 @@
-/* What the kit's libraries ask of C, for a machine that the kit has no objects of it for: the words that a program was started with, errno, and memory. */
+/* What the kit's library os asks of C, for a machine that the kit has no object of it for: the words that a program was started with, and errno. */
 #include <errno.h>
-#include <stdbool.h>
 #include <stddef.h>
 #include <stdint.h>
-#include <stdlib.h>
 #include <string.h>
 #include <sys/types.h>
-
-/* Whether memory was got, and where; a place that is not read where it was not. */
-typedef struct {
-    bool ok;
-    void *place;
-} tried;
 
 int32_t rattle_errno(void);
 void rattle_set_errno(int32_t error);
 size_t rattle_arg_count(void);
 ssize_t rattle_arg(size_t i, uint8_t *room, size_t length);
-tried rattle_alloc(size_t bytes, size_t alignment);
-tried rattle_realloc(void *place, size_t kept, size_t bytes, size_t alignment);
-void rattle_dealloc(void *place);
 
 static size_t count;
 static char **words;
@@ -54,28 +43,4 @@ ssize_t rattle_arg(size_t i, uint8_t *room, size_t length)
     size_t own = strlen(words[i]);
     memcpy(room, words[i], own < length ? own : length);
     return own <= length ? (ssize_t)own : -2;
-}
-
-static tried got(void *place)
-{
-    static max_align_t none;
-    return (tried){place != NULL, place != NULL ? place : &none};
-}
-
-/* No alignment is over 16, which malloc's is. Of no bytes there is a place too. */
-tried rattle_alloc(size_t bytes, size_t alignment)
-{
-    return got(malloc(bytes > 0 ? bytes : alignment));
-}
-
-/* Where it fails the memory is as it was. */
-tried rattle_realloc(void *place, size_t kept, size_t bytes, size_t alignment)
-{
-    (void)kept;
-    return got(realloc(place, bytes > 0 ? bytes : alignment));
-}
-
-void rattle_dealloc(void *place)
-{
-    free(place);
 }

@@ -1,4 +1,4 @@
-// The C face: exported functions on numbers and slices, as include/clp.h has them, each thin over a proved crate.
+// The C face: functions on numbers and slices, as include/clp.h has them, each thin over a proved crate. The crate `clp_c` exports them.
 #![tactic(auto)]
 
 ghost use Rattle.std.specs.Prelude.{◌≡◌, ◌<◌, ◌≤◌, length};
@@ -178,8 +178,7 @@ fn end_of(e: End) -> ClpAnswer
 }
 
 // Joins a part of a capture.
-#[unsafe(no_mangle)]
-pub extern "C" fn clp_join(state: u64, buffer: &mut [u8], part: &[u8]) -> ClpJoined
+pub fn clp_join(state: u64, buffer: &mut [u8], part: &[u8]) -> ClpJoined
     ensures value { result ≡ join_face state buffer.old part.now }
     ensures buffer_after { buffer.new ≡ join_buffer state buffer.old part.now }
 {
@@ -193,8 +192,7 @@ pub extern "C" fn clp_join(state: u64, buffer: &mut [u8], part: &[u8]) -> ClpJoi
 }
 
 // The end of a capture.
-#[unsafe(no_mangle)]
-pub extern "C" fn clp_end(state: u64) -> ClpAnswer
+pub fn clp_end(state: u64) -> ClpAnswer
     ensures { result ≡ end_face state }
 {
     if 16383 < state {
@@ -206,8 +204,7 @@ pub extern "C" fn clp_end(state: u64) -> ClpAnswer
 // ---- reading
 
 // Writes the records of a line.
-#[unsafe(no_mangle)]
-pub extern "C" fn clp_read(line: &[u8], room: &mut [u8]) -> ClpAnswer
+pub fn clp_read(line: &[u8], room: &mut [u8]) -> ClpAnswer
     ensures value { result ≡ answer_of (answer_in (length room.old) (reading_of line.now)) }
     ensures room_after { room.new ≡ room_in room.old (reading_of line.now) }
 {
@@ -224,8 +221,7 @@ fn part_of(s: Span) -> ClpPart
 }
 
 // The target's own part of a line.
-#[unsafe(no_mangle)]
-pub extern "C" fn clp_target(line: &[u8]) -> ClpPart
+pub fn clp_target(line: &[u8]) -> ClpPart
     ensures { result ≡ part_face (target_in (reading_of line.now)) }
 {
     part_of(reading::target_span(line))
@@ -255,16 +251,14 @@ fn term_of(y: Yielded) -> ClpTerm
 }
 
 // The term at or after a place.
-#[unsafe(no_mangle)]
-pub extern "C" fn clp_next_term(line: &[u8], place: usize) -> ClpTerm
+pub fn clp_next_term(line: &[u8], place: usize) -> ClpTerm
     ensures { result ≡ term_of (yield_at line.now place) }
 {
     term_of(yield_at(line, place))
 }
 
 // Writes a line canonically.
-#[unsafe(no_mangle)]
-pub extern "C" fn clp_canonical(line: &[u8], room: &mut [u8]) -> ClpAnswer
+pub fn clp_canonical(line: &[u8], room: &mut [u8]) -> ClpAnswer
     ensures value { result ≡ answer_of (writing_answer (length room.old) (reading_of line.now)) }
     ensures room_after { room.new ≡ writing_room room.old (reading_of line.now) }
 {
@@ -272,8 +266,7 @@ pub extern "C" fn clp_canonical(line: &[u8], room: &mut [u8]) -> ClpAnswer
 }
 
 // Writes the bytes that a text stands for: quote marks taken out, each escaped byte for its pair.
-#[unsafe(no_mangle)]
-pub extern "C" fn clp_meant(text: &[u8], room: &mut [u8]) -> ClpAnswer
+pub fn clp_meant(text: &[u8], room: &mut [u8]) -> ClpAnswer
     ensures value { result ≡ answer_of (fitted (length room.old) (meant text.now)) }
     ensures room_after { room.new ≡ filled room.old (meant text.now) }
 {
@@ -292,8 +285,7 @@ fn checked_of(c: Checked) -> ClpAnswer
 }
 
 // Checks a tree.
-#[unsafe(no_mangle)]
-pub extern "C" fn clp_check_tree(tree: &[u8]) -> ClpAnswer
+pub fn clp_check_tree(tree: &[u8]) -> ClpAnswer
     ensures { result ≡ checked_of (check_tree tree.now) }
 {
     checked_of(tree::check(tree))
@@ -310,13 +302,7 @@ fn resolved_of(r: Resolved) -> ClpAnswer
 }
 
 // The instances that a target's text addresses from a default target.
-#[unsafe(no_mangle)]
-pub extern "C" fn clp_resolve(
-    text: &[u8],
-    tree: &[u8],
-    default: usize,
-    list: &mut [u16],
-) -> ClpAnswer
+pub fn clp_resolve(text: &[u8], tree: &[u8], default: usize, list: &mut [u16]) -> ClpAnswer
     ensures value { result ≡ resolved_of (resolve_of (length list.old) text.now tree.now default) }
     ensures list_after { list.new ≡ resolve_list list.old text.now tree.now default }
 {
@@ -324,8 +310,7 @@ pub extern "C" fn clp_resolve(
 }
 
 // Writes the full path of a node.
-#[unsafe(no_mangle)]
-pub extern "C" fn clp_full_path(tree: &[u8], node: usize, room: &mut [u8]) -> ClpAnswer
+pub fn clp_full_path(tree: &[u8], node: usize, room: &mut [u8]) -> ClpAnswer
     ensures value { result ≡ answer_of (path_answer (length room.old) tree.now node) }
     ensures room_after { room.new ≡ path_room room.old tree.now node }
 {
@@ -335,8 +320,7 @@ pub extern "C" fn clp_full_path(tree: &[u8], node: usize, room: &mut [u8]) -> Cl
 // ---- replies
 
 // Reads a board's reply: writes its records.
-#[unsafe(no_mangle)]
-pub extern "C" fn clp_read_reply(reply: &[u8], room: &mut [u8]) -> ClpAnswer
+pub fn clp_read_reply(reply: &[u8], room: &mut [u8]) -> ClpAnswer
     ensures value { result ≡ answer_of (read_answer (length room.old) reply.now) }
     ensures room_after { room.new ≡ read_room room.old reply.now }
 {
@@ -344,8 +328,7 @@ pub extern "C" fn clp_read_reply(reply: &[u8], room: &mut [u8]) -> ClpAnswer
 }
 
 // Writes the items that records name in a text, as a reply.
-#[unsafe(no_mangle)]
-pub extern "C" fn clp_write_reply(records: &[u8], text: &[u8], room: &mut [u8]) -> ClpAnswer
+pub fn clp_write_reply(records: &[u8], text: &[u8], room: &mut [u8]) -> ClpAnswer
     ensures value { result ≡ answer_of (write_answer (length room.old) records.now text.now) }
     ensures room_after { room.new ≡ write_room room.old records.now text.now }
 {
@@ -353,8 +336,7 @@ pub extern "C" fn clp_write_reply(records: &[u8], text: &[u8], room: &mut [u8]) 
 }
 
 // Writes the bytes that a value, as a reply has it, stands for.
-#[unsafe(no_mangle)]
-pub extern "C" fn clp_reply_value(raw: &[u8], room: &mut [u8]) -> ClpAnswer
+pub fn clp_reply_value(raw: &[u8], room: &mut [u8]) -> ClpAnswer
     ensures value { result ≡ answer_of (value_answer (length room.old) raw.now) }
     ensures room_after { room.new ≡ value_room room.old raw.now }
 {
@@ -364,8 +346,7 @@ pub extern "C" fn clp_reply_value(raw: &[u8], room: &mut [u8]) -> ClpAnswer
 // ---- a lister
 
 // Writes records as text.
-#[unsafe(no_mangle)]
-pub extern "C" fn clp_records_text(records: &[u8], room: &mut [u8]) -> ClpAnswer
+pub fn clp_records_text(records: &[u8], room: &mut [u8]) -> ClpAnswer
     ensures value { result ≡ answer_of (text_answer (length room.old) (wording_of records.now)) }
     ensures room_after { room.new ≡ text_room room.old (wording_of records.now) }
 {
@@ -384,8 +365,7 @@ fn stands_of(none: u64, s: Stands) -> ClpAnswer
 }
 
 // Joins a part of a capture, and writes the records of the line that it ended.
-#[unsafe(no_mangle)]
-pub extern "C" fn clp_list(state: u64, buffer: &mut [u8], part: &[u8], room: &mut [u8]) -> ClpJoined
+pub fn clp_list(state: u64, buffer: &mut [u8], part: &[u8], room: &mut [u8]) -> ClpJoined
     ensures value { result ≡ list_face state buffer.old part.now room.old }
     ensures buffer_after { buffer.new ≡ list_buffer state buffer.old part.now room.old }
     ensures room_after { room.new ≡ list_room state buffer.old part.now room.old }
@@ -400,8 +380,7 @@ pub extern "C" fn clp_list(state: u64, buffer: &mut [u8], part: &[u8], room: &mu
 }
 
 // Writes the record that the end of a capture is.
-#[unsafe(no_mangle)]
-pub extern "C" fn clp_list_end(state: u64, room: &mut [u8]) -> ClpAnswer
+pub fn clp_list_end(state: u64, room: &mut [u8]) -> ClpAnswer
     ensures value { result ≡ list_end_face state (length room.old) }
     ensures room_after { room.new ≡ list_end_room state room.old }
 {

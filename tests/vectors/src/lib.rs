@@ -175,10 +175,23 @@ impl Case {
     }
 }
 
+/// What places and repetitions stay below: two bytes, but in the cases of request e.
+const TWO_BYTES: usize = 65_536;
+const WIDE: usize = 1_000_000;
+
 /// A refusal where the cell is one, otherwise what `read` makes of it.
 fn or_refused<T>(cell: &str, read: impl Fn(&str) -> Option<T>) -> Option<Result<T, Refused>> {
+    or_refused_below(TWO_BYTES, cell, read)
+}
+
+/// The same with a place below a limit.
+fn or_refused_below<T>(
+    limit: usize,
+    cell: &str,
+    read: impl Fn(&str) -> Option<T>,
+) -> Option<Result<T, Refused>> {
     if cell.starts_with("refusal ") {
-        refusal_of(cell).map(Err)
+        refusal_below(limit, cell).map(Err)
     } else {
         read(cell).map(Ok)
     }
@@ -186,22 +199,26 @@ fn or_refused<T>(cell: &str, read: impl Fn(&str) -> Option<T>) -> Option<Result<
 
 /// `refusal NUMBER at PLACE`
 fn refusal_of(cell: &str) -> Option<Refused> {
+    refusal_below(TWO_BYTES, cell)
+}
+
+fn refusal_below(limit: usize, cell: &str) -> Option<Refused> {
     let (number, place) = cell.strip_prefix("refusal ")?.split_once(" at ")?;
     Some(Refused {
         number: number_of(number)?.try_into().ok()?,
-        place: wide_number_of(place)?,
+        place: number_below(limit, place)?,
     })
 }
 
 /// A decimal number of two bytes as it is printed: digits alone, and no leading zero.
 fn number_of(text: &str) -> Option<u16> {
-    wide_number_of(text)?.try_into().ok()
+    number_below(TWO_BYTES, text)?.try_into().ok()
 }
 
-/// The same of at most six digits: how often something is repeated, and a place in records.
-fn wide_number_of(text: &str) -> Option<usize> {
+/// The same below a limit.
+fn number_below(limit: usize, text: &str) -> Option<usize> {
     let number: usize = text.parse().ok()?;
-    (number < 1_000_000 && number.to_string() == text).then_some(number)
+    (number < limit && number.to_string() == text).then_some(number)
 }
 
 /// `nodes` and node numbers, or `session`.
@@ -244,15 +261,24 @@ fn record_of(text: &str) -> Option<Vec<u8>> {
 
 /// Pieces of bytes joined by ` + `, and nothing else.
 fn bytes_of(cell: &str) -> Option<Vec<u8>> {
-    let (bytes, rest) = pieces_of(cell.as_bytes())?;
+    bytes_below(TWO_BYTES, cell)
+}
+
+/// The same with each repeated less often than a limit.
+fn bytes_below(limit: usize, cell: &str) -> Option<Vec<u8>> {
+    let (bytes, rest) = pieces_below(limit, cell.as_bytes())?;
     rest.is_empty().then_some(bytes)
 }
 
 /// The pieces that `text` begins with, joined by ` + `, and what follows them.
 fn pieces_of(text: &[u8]) -> Option<(Vec<u8>, &[u8])> {
-    let (mut bytes, mut rest) = piece_of(text)?;
+    pieces_below(TWO_BYTES, text)
+}
+
+fn pieces_below(limit: usize, text: &[u8]) -> Option<(Vec<u8>, &[u8])> {
+    let (mut bytes, mut rest) = piece_below(limit, text)?;
     while let Some(next) = rest.strip_prefix(b" + ") {
-        let (piece, after) = piece_of(next)?;
+        let (piece, after) = piece_below(limit, next)?;
         bytes.extend(piece);
         rest = after;
     }
@@ -260,14 +286,14 @@ fn pieces_of(text: &[u8]) -> Option<(Vec<u8>, &[u8])> {
 }
 
 /// The piece that `text` begins with, such as `b'a'` or `b'a'*65`, and what follows it.
-fn piece_of(text: &[u8]) -> Option<(Vec<u8>, &[u8])> {
+fn piece_below(limit: usize, text: &[u8]) -> Option<(Vec<u8>, &[u8])> {
     let (bytes, rest) = quoted(text.strip_prefix(b"b'")?)?;
     let Some(rest) = rest.strip_prefix(b"*") else {
         return Some((bytes, rest));
     };
     let digits = rest.iter().take_while(|byte| byte.is_ascii_digit()).count();
     let (times, rest) = rest.split_at(digits);
-    let times = wide_number_of(std::str::from_utf8(times).ok()?)?;
+    let times = number_below(limit, std::str::from_utf8(times).ok()?)?;
     Some((bytes.repeat(times), rest))
 }
 
@@ -333,7 +359,7 @@ mod tests {
             "b'a'*",
             "b'a'*-1",
             "b'a'*02",
-            "b'a'*1000000",
+            "b'a'*65536",
             r"b'\'",
             r"b'\''",
             r"b'\q'",
@@ -431,7 +457,7 @@ mod tests {
             "refusal 12 7",
             "refusal 12 at",
             "refusal 256 at 7",
-            "refusal 12 at 1000000",
+            "refusal 12 at 65536",
             "refusal 12 at 7 ",
             "verb 1; refusal 12 at 7",
             "b'show'",

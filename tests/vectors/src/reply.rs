@@ -2,7 +2,7 @@
 //! its answer.
 
 use crate::tree::raw_of;
-use crate::{bytes_of, number_of, or_refused, wide_number_of, Answer, Case};
+use crate::{bytes_below, number_below, number_of, or_refused_below, Answer, Case, WIDE};
 
 /// What a case asks: to read a reply, or to write the one that records over a text stand for.
 #[derive(Debug, PartialEq, Eq)]
@@ -23,18 +23,18 @@ impl Case {
     /// The row as what is asked of replies: what, records, text, room, answer. Only a row that
     /// writes has records; a row that reads is answered by records, the other by a reply.
     pub fn asked_reply(&self) -> AskedReply {
-        let text = self.bytes(2);
+        let text = self.cell(2, bytes_of);
         let (asked, answer) = match self.word(0, &["read", "write"]) {
             "read" => {
                 self.empty(1);
                 (
                     ToReply::Read(text),
-                    self.cell(4, |cell| or_refused(cell, answer_of)),
+                    self.cell(4, |cell| or_refused_below(WIDE, cell, answer_of)),
                 )
             }
             _ => {
                 let records = self.cell(1, records_of);
-                let answer = self.cell(4, |cell| or_refused(cell, bytes_of));
+                let answer = self.cell(4, |cell| or_refused_below(WIDE, cell, bytes_of));
                 (ToReply::Write { records, text }, answer)
             }
         };
@@ -46,11 +46,16 @@ impl Case {
     }
 }
 
+/// A reply's bytes may repeat more often than a line's.
+fn bytes_of(cell: &str) -> Option<Vec<u8>> {
+    bytes_below(WIDE, cell)
+}
+
 /// A number of bytes, or nothing.
 fn room_of(cell: &str) -> Option<Option<usize>> {
     match cell {
         "" => Some(None),
-        _ => wide_number_of(cell).map(Some),
+        _ => number_below(WIDE, cell).map(Some),
     }
 }
 
@@ -79,7 +84,7 @@ fn record_run_of(text: &str) -> Option<Vec<u8>> {
     let Some((record, times)) = text.split_once(" x ") else {
         return record_of(text);
     };
-    let times = wide_number_of(times).filter(|&times| times > 1)?;
+    let times = number_below(WIDE, times).filter(|&times| times > 1)?;
     Some(record_of(record)?.repeat(times))
 }
 
