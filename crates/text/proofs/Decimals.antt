@@ -11,14 +11,13 @@ use borrow.Author.Tests.{eq-eqb, ne_eqb, le-leb, lt-leb, leb-true, ltb-true, ltb
 use lib.ListN.{length, get_or, take, drop, length-drop, drop_of_length-le}
 use lib.Seq.{take_all}
 use lib.Dec.{eqb, leb, ltb}
-use Rattle.text.specs.declared.Number.{Number}
-use Rattle.text.specs.declared.Number.TheVariants.{Is, No}
 use Rattle.text.specs.Lists.{all_of, is_nil}
 use Rattle.text.specs.Bytes.{is_digit}
 use Rattle.text.specs.Decimal.{value_from, is_decimal, decimal_of, width, five_digits, digits}
 use Rattle.text.proofs.Tests.{and_l, and_r, and_in, no_case}
 use Rattle.text.proofs.Classes.{digit_bounds, inside}
 use Rattle.text.proofs.Scans.{drop_step}
+use Rattle.std.proofs.Common.{Option, Some, None}
 
 -- a value that more digits follow does not get less
 pub value_grows : (n : ℕ) (s : List ℕ) → n ≤ value_from n s
@@ -27,10 +26,10 @@ value_grows n [] = omega arith
 value_grows n (b ∷ s) = let h = value_grows (n * 10 + (b - 48)) s in omega arith
 
 -- the number that some digits are which follow a value
-unfoldable pub read_on : ℕ → ℕ → List ℕ → Number
-read_on most v s = cond (all_of is_digit s && leb (value_from v s) most) (Is (value_from v s)) No
+unfoldable pub read_on : ℕ → ℕ → List ℕ → Option ℕ
+read_on most v s = cond (all_of is_digit s && leb (value_from v s) most) (Some (value_from v s)) None
 
-pub read_large : (most v : ℕ) (s : List ℕ) → most < v → read_on most v s ≡ No
+pub read_large : (most v : ℕ) (s : List ℕ) → most < v → read_on most v s ≡ None
 unfolding read_on
 read_large most v s h =
     let g = value_grows v s in
@@ -42,27 +41,27 @@ module _ (most v : ℕ) (s : List ℕ) (i : ℕ) where
   unfolding read_on all_of value_from
   read_on_lem h e = rw (drop_step s i h, e)
 
-  pub read_no : i < length s → is_digit (get_or s i 0) ≡ false → read_on most v (drop i s) ≡ No
+  pub read_no : i < length s → is_digit (get_or s i 0) ≡ false → read_on most v (drop i s) ≡ None
   unfolding read_on all_of
   read_no h e = rw (drop_step s i h, e)
 
-  pub read_past : length s ≤ i → v ≤ most → read_on most v (drop i s) ≡ Is v
+  pub read_past : length s ≤ i → v ≤ most → read_on most v (drop i s) ≡ Some v
   unfolding read_on all_of value_from
   read_past h k = rw (drop_of_length-le s h, le-leb v most k)
 
 -- what decides before the first digit is read
-pub no_digits : (most : ℕ) (s : List ℕ) → length s ≡ 0 → decimal_of most s ≡ No
+pub no_digits : (most : ℕ) (s : List ℕ) → length s ≡ 0 → decimal_of most s ≡ None
 unfolding decimal_of is_decimal
 no_digits most [] h = refl
 no_digits most (b ∷ s) h = absurd (omega arith)
 
-pub zero_alone : (most : ℕ) (s : List ℕ) → get_or s 0 0 ≡ 48 → length s ≡ 1 → decimal_of most s ≡ Is 0
+pub zero_alone : (most : ℕ) (s : List ℕ) → get_or s 0 0 ≡ 48 → length s ≡ 1 → decimal_of most s ≡ Some 0
 unfolding decimal_of is_decimal value_from all_of
 zero_alone most [] e h = absurd (omega arith)
 zero_alone most (b ∷ []) e h = rw (e, le-leb 0 most (omega arith))
 zero_alone most (b ∷ x ∷ s) e h = absurd (omega arith)
 
-pub zero_leads : (most : ℕ) (s : List ℕ) → get_or s 0 0 ≡ 48 → (length s ≡ 1 → ⊥) → decimal_of most s ≡ No
+pub zero_leads : (most : ℕ) (s : List ℕ) → get_or s 0 0 ≡ 48 → (length s ≡ 1 → ⊥) → decimal_of most s ≡ None
 unfolding decimal_of is_decimal
 zero_leads most [] e h = absurd (omega arith)
 zero_leads most (b ∷ []) e h = absurd (h refl)
@@ -262,18 +261,18 @@ decimal_digits most s e h =
 -- ---- what a number that was read says
 
 -- b says whether there is a number, and w which
-pub told_is : (b : Bool) (v w : ℕ) → Is v ≡ cond b (Is w) No → (b ≡ true) × (v ≡ w)
+pub told_is : (b : Bool) (v w : ℕ) → Some v ≡ cond b (Some w) None → (b ≡ true) × (v ≡ w)
 told_is true v w e = (refl, cc)
 told_is false v w e = absurd (let z : ◌≡◌ {A = ℕ} 0 1 = cc in omega arith)
 
-pub told_no : (b : Bool) (w : ℕ) → No ≡ cond b (Is w) No → b ≡ false
+pub told_no : (b : Bool) (w : ℕ) → None ≡ cond b (Some w) None → b ≡ false
 told_no true w e = absurd (let z : ◌≡◌ {A = ℕ} 0 1 = cc in omega arith)
 told_no false w e = refl
 
-pub is_decimal_lem : (most : ℕ) (s : List ℕ) (v : ℕ) → Is v ≡ decimal_of most s → (is_decimal most s ≡ true) × (v ≡ value_from 0 s)
+pub is_decimal_lem : (most : ℕ) (s : List ℕ) (v : ℕ) → Some v ≡ decimal_of most s → (is_decimal most s ≡ true) × (v ≡ value_from 0 s)
 unfolding decimal_of
 is_decimal_lem most s v e = told_is (is_decimal most s) v (value_from 0 s) e
 
-pub no_decimal : (most : ℕ) (s : List ℕ) → No ≡ decimal_of most s → is_decimal most s ≡ false
+pub no_decimal : (most : ℕ) (s : List ℕ) → None ≡ decimal_of most s → is_decimal most s ≡ false
 unfolding decimal_of
 no_decimal most s e = told_no (is_decimal most s) (value_from 0 s) e

@@ -6,12 +6,11 @@ use mathlib.Core.List.{List, [], ◌∷◌, map}
 use mathlib.Core.Bool.{Bool, true, false}
 use lib.ListN.{set}
 use lib.Seq.{sets}
-use Rattle.text.specs.declared.Number.{Number}
-use Rattle.text.specs.declared.Number.TheVariants.{Is, No}
 use Rattle.text.specs.Lists.{all_of, run_len}
 use Rattle.text.specs.Bytes.{bytes, same_bytes, is_letter, is_digit, is_word, printable}
 use Rattle.text.specs.Decimal.{value_from, is_decimal, decimal_of, width, digits}
-use Rattle.text.specs.Room.{be16}
+use Rattle.text.specs.Room.{be16, high_low}
+use Rattle.std.proofs.Common.{Option, Some, None}
 
 -- of each byte of a text: is it a letter, a digit, a byte of a word, printable?
 abbrev Classed : Type 0
@@ -77,11 +76,11 @@ texts_same = refl
 
 -- at most 255 is read: no sign, no leading zero, no byte that is no digit, nothing larger
 abbrev Read : Type 0
-Read = String × Number
+Read = String × Option ℕ
 
 abbrev pub read : List Read
 read =
-    ("0", Is 0) ∷ ("7", Is 7) ∷ ("255", Is 255) ∷ ("256", No) ∷ ("01", No) ∷ ("00", No) ∷ ("", No) ∷ ("1x", No) ∷ (":", No) ∷ ("-1", No) ∷ []
+    ("0", Some 0) ∷ ("7", Some 7) ∷ ("255", Some 255) ∷ ("256", None) ∷ ("01", None) ∷ ("00", None) ∷ ("", None) ∷ ("1x", None) ∷ (":", None) ∷ ("-1", None) ∷ []
 
 pub numbers_read : map {B = Read} (λ (e : Read). (e.0, decimal_of 255 (bytes e.0))) read ≡ read
 unfolding bytes all_of value_from is_decimal decimal_of
@@ -99,9 +98,12 @@ pub numbers_written : map {B = Written} (λ (e : Written). (e.0, width e.0, digi
 unfolding bytes width digits
 numbers_written = refl
 
--- of two bytes the first is the high one
+-- of two bytes the first is the high one, read and made
 pub two_bytes : be16 1 2 ≡ 258
 two_bytes = refl
+
+pub number_in_bytes : high_low 258 ≡ 1 ∷ 2 ∷ []
+number_in_bytes = refl
 
 -- a store changes no other byte, and past the room's end nothing is stored; of a text as much is stored as there is room for
 pub stored : (set {A = ℕ} (1 ∷ 2 ∷ 3 ∷ []) 1 9 ≡ 1 ∷ 9 ∷ 3 ∷ []) × (set {A = ℕ} (1 ∷ 2 ∷ 3 ∷ []) 3 9 ≡ 1 ∷ 2 ∷ 3 ∷ [])

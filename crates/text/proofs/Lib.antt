@@ -5,8 +5,10 @@ pub mod AllAny
 pub mod Parts
 pub mod Classes
 pub mod Scans
+pub mod Chains
 pub mod Slices
 pub mod Writes
 pub mod Decimals
 pub mod Only
 pub mod Examples
+pub mod Refusals

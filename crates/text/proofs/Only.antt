@@ -35,6 +35,9 @@ use Rattle.text.proofs.decimal.Reads as decimal-reads
 use Rattle.text.specs.contracts.pair as pair-fn
 use Rattle.text.proofs.pair.Kinds as pair-kinds
 use Rattle.text.proofs.pair.Reads as Pair-reads
+use Rattle.text.specs.contracts.high_low as high-low-fn
+use Rattle.text.proofs.high_low.Kinds as high-low-kinds
+use Rattle.text.proofs.high_low.Reads as high-low-reads
 use Rattle.text.specs.contracts.put as put-fn
 use Rattle.text.proofs.put.Kinds as put-kinds
 use Rattle.text.proofs.put.Reads as put_reads
@@ -127,6 +130,14 @@ pub pair_only :
     → Pair-reads.Post κs a r s → Pair-reads.Post κs a r' s'
     → r ≡ r'
 pair_only κs a r r' s s' p q = p ∙ sym q
+
+pub high_low_only :
+    (κs : Lifetimes.Lfts 0) (a : World.ArgsD high-low-fn.signature κs)
+    (r r' : World.ResD high-low-fn.signature κs)
+    (s s' : Clauses.AtExit (Kinds.ended_of 0 high-low-kinds.ps high-low-kinds.r) κs)
+    → high-low-reads.Post κs a r s → high-low-reads.Post κs a r' s'
+    → r ≡ r'
+high_low_only κs a r r' s s' p q = p ∙ sym q
 
 pub put_only :
     (κs : Lifetimes.Lfts 1) (a : World.ArgsD put-fn.signature κs)

@@ -6,8 +6,8 @@ use mathlib.Core.List.{List, [], ◌∷◌, ◌++◌}
 use mathlib.Core.Bool.{Bool, true, false, cond, ◌&&◌, ◌||◌, and-false}
 use native.Mathlib.Numerals.{add-one}
 use native.Mathlib.Omega.{arith}
-use lib.ListN.{length, get_or, take, drop, drop_of_length-le}
-use lib.Seq.{drop-cons}
+use lib.ListN.{length, get_or, take, drop, take-append-drop, drop_of_length-le}
+use lib.Seq.{drop-cons, length-take-le}
 use lib.Dec.{eqb}
 use borrow.Author.Tests.{eq-eqb, ne_eqb}
 use Rattle.text.specs.Lists.{all_of, any_of, run_len, up_to, walk}
@@ -97,6 +97,15 @@ pub run_over : {A : Type 0} (f : A → Bool) (a r : List A) → all_of f a ≡ t
 unfolding run_len all_of
 run_over f [] r e = let z : run_len f r ≡ 0 + run_len f r = omega arith in z
 run_over f (x ∷ a) r e = rw (and_l (f x) (all_of f a) e) (let ih = run_over f a r (and_r (f x) (all_of f a) e) in omega arith)
+
+-- a walk goes on after a block that passes the test: rest is what it has left of s, which begins with the block, and more follows
+pub run_passed : {A : Type 0} (f : A → Bool) (s rest block more : List A) (n : ℕ) → (block ≡ take n rest) × (more ≡ drop n rest) × (length more + n ≡ length rest) → all_of f block ≡ true
+    → (length rest ≤ length s) × (length s - length rest + run_len f rest ≡ run_len f s) → (length more ≤ length s) × (length s - length more + run_len f more ≡ run_len f s)
+run_passed f s rest block more n parts all passed =
+    let both : rest ≡ block ++ more = sym (take-append-drop n rest) ∙ rw (parts.0, parts.1) refl in
+    let r = ap (run_len f) both ∙ run_over f block more all in
+    let k = ap length parts.0 ∙ length-take-le n rest (omega arith) in
+    (omega arith, omega arith)
 
 -- the same of a part of a text, `&l[i..i + n]`
 pub run_part : {A : Type 0} (f : A → Bool) (l : List A) (i n : ℕ) → i + n ≤ length l → all_of f (take (i + n - i) (drop i l)) ≡ true → run_len f (drop i l) ≡ n + run_len f (drop (i + n) l)

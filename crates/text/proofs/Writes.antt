@@ -1,7 +1,7 @@
 -- Runs of stores into lent room, and the answers of what writes into it. Assumes nothing.
 use Prim.Native.Nat.{ℕ, suc, zero, ◌+◌, ◌-◌, ◌<◌, ◌≤◌, min}
 use mathlib.Core.Path.{◌≡◌, refl, sym, ap, ◌∙◌}
-use mathlib.Core.List.{List, [], ◌∷◌, ◌++◌}
+use mathlib.Core.List.{List, [], ◌∷◌, ◌++◌, append_assoc}
 use mathlib.Core.Bool.{Bool, true, false}
 use native.Mathlib.Nat.{add-zero}
 use native.Mathlib.Numerals.{add-one}
@@ -9,9 +9,10 @@ use native.Mathlib.Omega.{arith}
 use borrow.Author.Tests.{le-leb, lt-leb}
 use lib.Dec.{leb}
 use lib.ListN.{length, get_or, take, drop, set, length-set, length-append, length-drop}
-use lib.Seq.{sets, sets-eq, set_out, take-nil, take-suc, take_at, length-take-le}
-use Rattle.text.specs.declared.Answer.TheVariants.{Wrote, Refused}
-use Rattle.text.specs.Room.{wrote, fitted, filled}
+use lib.Seq.{sets, sets-eq, set_out, take-nil, take-suc, take_at, length-take-le, drop-drop}
+use borrow.Rule.Slice.PartMut.{put_mid}
+use Rattle.text.specs.Room.{wrote, fitted, filled, refusal_at}
+use Rattle.std.proofs.Common.{Ok, Err}
 
 module _ {A : Type 0} where
   -- two runs of stores after one another are one
@@ -31,6 +32,12 @@ module _ {A : Type 0} where
   sets_cut [] l i n h = ap (λ (m : List A). sets l i m) (take-nil n)
   sets_cut (x ∷ xs) l i zero h = sym (sets_past (x ∷ xs) l i (omega arith))
   sets_cut (x ∷ xs) l i (suc n) h = sets_cut xs (set l i x) (suc i) n (omega (arith, length-set l i x))
+
+  -- after a write to `out[at..at + n]`: ys is what that part then holds
+  pub put_mid_sets : (at n : ℕ) (out ys : List A) → length ys ≡ n → at + n ≤ length out → put_mid at n out ys ≡ sets out at ys
+  put_mid_sets at n out ys e h =
+      let d : drop n (drop at out) ≡ drop (at + length ys) out = rw e (drop-drop n at out) in
+      rw d (sym (append_assoc (take at out) ys (drop (at + length ys) out)) ∙ sym (sets-eq ys out at (omega arith)))
 
   -- what is left to write, where b holds t from the place `at` on
   pub sets_rest : (o t b : List A) (at w : ℕ) → b ≡ sets o at t → w ≡ at + length t → (s : List A) → sets b w s ≡ sets o at (t ++ s)
@@ -72,11 +79,11 @@ pub held_is : (room held s : List ℕ) (n : ℕ) → held ≡ sets room 0 s → 
 held_is room held s n e p h = ap (take n) (e ∙ sets_fill room s h) ∙ ap (λ (k : ℕ). take k (wrote room s)) p ∙ take_wrote room s
 
 -- the answer and the room, where the text has room and where it has none
-pub fitted_room : (n : ℕ) (t : List ℕ) → length t ≤ n → fitted n t ≡ Wrote (length t)
+pub fitted_room : (n : ℕ) (t : List ℕ) → length t ≤ n → fitted n t ≡ Ok (length t)
 unfolding fitted
 fitted_room n t h = rw (le-leb (length t) n h)
 
-pub fitted_none : (n : ℕ) (t : List ℕ) → n < length t → fitted n t ≡ Refused 19 0
+pub fitted_none : (n : ℕ) (t : List ℕ) → n < length t → fitted n t ≡ Err (refusal_at 19 0)
 unfolding fitted
 fitted_none n t h = rw (lt-leb (length t) n h)
 
@@ -92,11 +99,11 @@ filled_none room t h = rw (lt-leb (length t) (length room) h)
 pub filled_sets : (room t : List ℕ) → length t ≤ length room → sets room 0 t ≡ filled room t
 filled_sets room t h = sets_fill room t h ∙ sym (filled_room room t h)
 
-wrote_refused : {P : Type 0} {n k p : ℕ} → Wrote n ≡ Refused k p → P
+wrote_refused : {P : Type 0} {n k p : ℕ} → Ok n ≡ Err (refusal_at k p) → P
 wrote_refused e = let z : ◌≡◌ {A = ℕ} 0 1 = cc in absurd (omega arith)
 
 -- text that does not fit is not written at all
-pub filled_kept : (room t : List ℕ) (k p : ℕ) → fitted (length room) t ≡ Refused k p → filled room t ≡ room
+pub filled_kept : (room t : List ℕ) (k p : ℕ) → fitted (length room) t ≡ Err (refusal_at k p) → filled room t ≡ room
 unfolding fitted filled
 filled_kept room t k p e = go (leb (length t) (length room)) refl
   where

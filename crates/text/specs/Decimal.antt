@@ -1,7 +1,5 @@
 -- Decimal numbers: no leading zero but `0` itself, with an upper limit; too large is no number.
-use Rattle.std.specs.Prelude.{ℕ, ◌+◌, ◌-◌, ◌*◌, ◌/◌, ◌%◌, List, [], ◌∷◌, Bool, false, cond, not, ◌&&◌, ◌||◌, drop, eqb, leb, ltb}
-use Rattle.text.specs.declared.Number.{Number}
-use Rattle.text.specs.declared.Number.TheVariants.{Is, No}
+use Rattle.std.specs.Prelude.{ℕ, ◌+◌, ◌-◌, ◌*◌, ◌/◌, ◌%◌, List, [], ◌∷◌, Bool, false, cond, not, ◌&&◌, ◌||◌, drop, eqb, leb, ltb, Option, Some, None}
 use Rattle.text.specs.Lists.{all_of, is_nil}
 use Rattle.text.specs.Bytes.{is_digit}
 
@@ -14,8 +12,8 @@ unfoldable pub is_decimal : ℕ → List ℕ → Bool
 is_decimal most [] = false
 is_decimal most (b ∷ s) = all_of is_digit (b ∷ s) && ((not (eqb b 48) || is_nil s) && leb (value_from 0 (b ∷ s)) most)
 
-unfoldable pub decimal_of : ℕ → List ℕ → Number
-decimal_of most s = cond (is_decimal most s) (Is (value_from 0 s)) No
+unfoldable pub decimal_of : ℕ → List ℕ → Option ℕ
+decimal_of most s = cond (is_decimal most s) (Some (value_from 0 s)) None
 
 -- how many digits a number below 100,000 has
 unfoldable pub width : ℕ → ℕ

@@ -1,15 +1,18 @@
 -- Lent room: an answer fills its start and leaves its rest; where it does not fit, it is refused as 19 and nothing changes.
-use Rattle.std.specs.Prelude.{ℕ, ◌+◌, ◌*◌, ◌/◌, ◌%◌, List, [], ◌∷◌, ◌++◌, cond, length, drop, leb}
-use Rattle.text.specs.declared.Answer.{Answer}
-use Rattle.text.specs.declared.Answer.TheVariants.{Wrote, Refused}
+use Rattle.std.specs.Prelude.{ℕ, ◌+◌, ◌*◌, ◌/◌, ◌%◌, List, [], ◌∷◌, ◌++◌, cond, length, drop, leb, Result, Ok, Err}
+use Rattle.text.specs.declared.Refusal.{Refusal}
+
+-- a refusal by its number and its place
+abbrev pub refusal_at : ℕ → ℕ → Refusal
+refusal_at number place = record { number = number; place = place }
 
 -- the room once a text fills its start
 unfoldable pub wrote : List ℕ → List ℕ → List ℕ
 wrote room t = t ++ drop (length t) room
 
 -- the answer of a function that writes t into room of n bytes
-unfoldable pub fitted : ℕ → List ℕ → Answer
-fitted n t = cond (leb (length t) n) (Wrote (length t)) (Refused 19 0)
+unfoldable pub fitted : ℕ → List ℕ → Result ℕ Refusal
+fitted n t = cond (leb (length t) n) (Ok (length t)) (Err (refusal_at 19 0))
 
 -- what the room then holds
 unfoldable pub filled : List ℕ → List ℕ → List ℕ

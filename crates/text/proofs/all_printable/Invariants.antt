@@ -1,14 +1,8 @@
--- `text::all_printable` meets its contract. The loop's invariant: what was found so far and what holds of the rest are the answer.
-use Prim.Native.Nat.{◌-◌}
-use mathlib.Core.Path.{◌≡◌}
-use mathlib.Core.Bool.{◌&&◌}
-use lib.ListN.{length, drop}
+-- What was found so far and what holds of the rest are the answer.
+use Rattle.std.proofs.Common.{◌≡◌, drop, ◌&&◌}
 use Rattle.text.specs.Lists.{all_of}
 use Rattle.text.specs.Bytes.{printable}
 use Rattle.text.proofs.all_printable.Given as goal
 
-abbrev pub invariant-loop-i : goal.invariant-loop-i
-invariant-loop-i l = l.all && all_of printable (drop l.i l.s) ≡ all_of printable l.s
-
-abbrev pub decreases-loop-i : goal.decreases-loop-i
-decreases-loop-i l = length l.s - l.i
+abbrev pub invariant-loop-b : goal.invariant-loop-b
+invariant-loop-b l = l.all && all_of printable (drop l.b-index l.block) ≡ all_of printable l.block

@@ -1,27 +1,14 @@
-use mathlib.Core.Path.{sym, ◌∙◌}
-use native.Mathlib.Omega.{arith}
+use Rattle.std.proofs.Common.{arith, sym, ◌∙◌}
 use Rattle.text.specs.Bytes.{printable}
-use Rattle.text.proofs.Scans.{run_on, run_ends, run_past}
+use Rattle.text.proofs.Scans.{run_within, run_passed}
 use Rattle.text.proofs.printable_len.Goals as goal
 
-pub loop-i-init : goal.loop-i-init
-loop-i-init c = c.printable_blocks-i.ensures
+pub loop-block-preserved : goal.loop-block-preserved
+loop-block-preserved c =
+    let l = c.loop-block in
+    run_passed printable c.args.s.now l.rest.now c.in-Some.block.now c.in-Some.more.now _ c.in-Some.ensures.cases (sym c.all_printable.ensures ∙ c.if-not-all_printable.false) l.invariant
 
-pub returns-then-not-is_printable : goal.returns-then-not-is_printable
-returns-then-not-is_printable c =
-    let at = c in
-    let t = c.is_printable in
-    let e = sym t.ensures ∙ c.if-not-is_printable.true in
-    omega (arith, at.loop-i.invariant, run_ends printable at.args.s.now at.loop-i.i (omega arith) e)
-
-pub loop-i-preserved : goal.loop-i-preserved
-loop-i-preserved c =
-    let at = c in
-    let t = c.is_printable in
-    let e = sym t.ensures ∙ c.if-not-is_printable.false in
-    omega (arith, at.loop-i.invariant, run_on printable at.args.s.now at.loop-i.i (omega arith) e)
-
-pub returns : goal.returns
-returns c =
-    let at = c in
-    omega (arith, at.loop-i.invariant, run_past printable at.args.s.now at.loop-i.i (omega arith))
+pub overflow_add-result : goal.overflow_add-result
+overflow_add-result c =
+    let front = c.front_len.ensures printable (λ b r e. e) in
+    omega (arith, run_within printable c.loop-block.rest.now, front)
