@@ -1,66 +1,52 @@
--- Sixteen bytes at a time: what a block is of a part, what it has not, what it leaves in a buffer, and a run of plain bytes, of a line
--- that there is room for and of one that is too long.
+-- Sixteen bytes at a time: what a block has not, what it leaves in a buffer, and a run of plain bytes, of a line that there is room for and of one
+-- that is too long.
 -- Assumes nothing.
-use Prim.Native.Nat.{ℕ, suc, ◌+◌, ◌<◌, ◌≤◌}
+use Prim.Native.Nat.{ℕ, zero, suc, ◌+◌, ◌<◌, ◌≤◌}
 use native.Mathlib.Omega.{arith}
 use native.Mathlib.Nat.{add-zero}
 use native.Mathlib.Numerals.{add-one}
 use mathlib.Core.Path.{◌≡◌, refl, sym, ap, ◌∙◌}
-use mathlib.Core.List.{List, [], ◌∷◌, ◌++◌}
+use mathlib.Core.List.{List, [], ◌∷◌, ◌++◌, append_assoc}
 use mathlib.Core.Bool.{Bool, true, false, not, ◌||◌, cond, true≢false, false≢true}
 use lib.ListN.{length, get_or, take, drop, set, length-drop, take-append-drop}
-use lib.Seq.{sets, drop-cons, drop-drop, take-suc, take-suc-set, get_or-drop, length-take-le, set_out}
-use lib.Dec.{ltb, eqb}
-use borrow.Author.Tests.{ltb-true, ltb-false, eqb-false, le-ltb, le-leb}
-use Rattle.joiner.specs.declared.Outcome.TheVariants.{More}
+use lib.Seq.{sets, sets-eq, length-sets, drop-drop, length-take-le, set_out}
+use lib.Dec.{eqb}
+use borrow.Rule.Slice.PartMut.{put_mid}
+use Rattle.std.specs.List.{list_any}
+use borrow.Author.Tests.{eqb-false, le-ltb, le-leb}
 use Rattle.joiner.specs.Lines.{plain, byte_kind, is_plain_byte}
 use Rattle.joiner.specs.Step.{st, byte_step, more, stored, Effect}
 use Rattle.joiner.specs.Join.{Ran, run}
 use Rattle.joiner.proofs.Laws.{is_more, kind_plain, is_plain_lem, cons_more, plain_step}
+use Rattle.std.proofs.Common.{Ok, None}
 
--- ---- a turn of the loop of `block`: one byte more is the part's
+-- what a test says of its parts
+or_none : (p q : Bool) → p || q ≡ false → (p ≡ false) × (q ≡ false)
+or_none true q e = absurd (true≢false e)
+or_none false q e = (refl, e)
 
-pub block_more : (b p : List ℕ) (at k : ℕ) → k < length b → at + k < length p → take k b ≡ take k (drop at p)
-    → take (k + 1) (set b k (get_or p (at + k) 0)) ≡ take (k + 1) (drop at p)
-block_more b p at k h l e =
-    let x : ℕ = get_or p (at + k) 0 in
-    ap (λ (n : ℕ). take n (set b k x)) (add-one k)
-    ∙ take-suc-set b k x h
-    ∙ ap (λ (t : List ℕ). t ++ (x ∷ [])) e
-    ∙ ap (λ (y : ℕ). take k (drop at p) ++ (y ∷ [])) (sym (get_or-drop at p k 0))
-    ∙ sym (take-suc (drop at p) k 0 (omega (arith, length-drop at p)))
-    ∙ ap (λ (n : ℕ). take n (drop at p)) (sym (add-one k))
+pub not_false : (p : Bool) → not p ≡ false → p ≡ true
+not_false true e = refl
+not_false false e = absurd (true≢false e)
 
--- ---- a turn of the loop of `has`: one byte more is another
+pub not_true : (p : Bool) → not p ≡ true → p ≡ false
+not_true true e = absurd (false≢true e)
+not_true false e = refl
 
-pub has_more : (b : List ℕ) (x k : ℕ) (found : Bool) → (found ≡ false → (j : ℕ) → j < k → get_or b j 0 ≡ x → ⊥)
-    → found || eqb (get_or b k 0) x ≡ false → (j : ℕ) → j < k + 1 → get_or b j 0 ≡ x → ⊥
-has_more b x k true i e j h q = absurd (true≢false e)
-has_more b x k false i e j h q = go (ltb j k) refl
-  where
-    go : (t : Bool) → ltb j k ≡ t → ⊥
-    go true w = i refl j (ltb-true j k w) q
-    go false w =
-        let l : k ≤ j = ltb-false j k w in
-        let s : k ≡ j = omega arith in
-        eqb-false (get_or b k 0) x e (ap (λ (n : ℕ). get_or b n 0) s ∙ q)
+-- ---- what a block has not
+
+none_of : (x : ℕ) (b : List ℕ) → list_any (λ y. eqb y x) b ≡ false → (k : ℕ) → k < length b → get_or b k 0 ≡ x → ⊥
+none_of x [] e k h q = absurd (omega arith)
+none_of x (y ∷ b) e zero h q = eqb-false y x (or_none (eqb y x) _ e).0 q
+none_of x (y ∷ b) e (suc k) h q = none_of x b (or_none (eqb y x) _ e).1 k (omega arith) q
 
 -- a block that has none of the three
-pub none_marked : (b : List ℕ) (p q r : Bool) → (p ≡ false → (k : ℕ) → k < 16 → get_or b k 0 ≡ 96 → ⊥) → (q ≡ false → (k : ℕ) → k < 16 → get_or b k 0 ≡ 13 → ⊥)
-    → (r ≡ false → (k : ℕ) → k < 16 → get_or b k 0 ≡ 10 → ⊥) → not (p || q || r) ≡ true → (k : ℕ) → k < 16 → is_plain_byte (byte_kind (get_or b k 0)) ≡ true
-none_marked b true q r i j l e k h = absurd (false≢true e)
-none_marked b false true r i j l e k h = absurd (false≢true e)
-none_marked b false false true i j l e k h = absurd (false≢true e)
-none_marked b false false false i j l e k h = ap is_plain_byte (kind_plain (get_or b k 0) (j refl k h) (l refl k h) (i refl k h))
-
--- ---- a turn of the loop of `put`: one byte more is stored
-
-pub put_more : (d b : List ℕ) (at k : ℕ) → k < length b → sets d (at + k) (drop k b) ≡ sets (set d (at + k) (get_or b k 0)) (at + (k + 1)) (drop (k + 1) b)
-put_more d b at k h =
-    let s : suc (at + k) ≡ at + (k + 1) = omega arith in
-    ap (sets d (at + k)) (drop-cons b k 0 h)
-    ∙ ap (λ (n : ℕ). sets (set d (at + k) (get_or b k 0)) n (drop (suc k) b)) s
-    ∙ ap (λ (n : ℕ). sets (set d (at + k) (get_or b k 0)) (at + (k + 1)) (drop n b)) (sym (add-one k))
+pub none_marked : (b : List ℕ) → length b ≡ 16 → not (list_any (λ y. eqb y 96) b || list_any (λ y. eqb y 13) b || list_any (λ y. eqb y 10) b) ≡ true
+    → (k : ℕ) → k < 16 → is_plain_byte (byte_kind (get_or b k 0)) ≡ true
+none_marked b m e k h =
+    let both = or_none (list_any (λ y. eqb y 96) b || list_any (λ y. eqb y 13) b) (list_any (λ y. eqb y 10) b) (not_true _ e) in
+    let two = or_none (list_any (λ y. eqb y 96) b) (list_any (λ y. eqb y 13) b) both.0 in
+    ap is_plain_byte (kind_plain (get_or b k 0) (none_of 13 b two.1 k (omega arith)) (none_of 10 b both.1 k (omega arith)) (none_of 96 b two.0 k (omega arith)))
 
 -- ---- a run of plain bytes that there is room for
 
@@ -84,7 +70,7 @@ plain_run (x ∷ xs) ys n h b l p =
 -- ---- a run of plain bytes that a line which is too long takes none of
 
 over_step : (h x : ℕ) → 1024 ≤ h → byte_kind x ≡ plain
-    → byte_step (st h false false true) x ≡ record { state = st h false false true; put = x ∷ []; out = More }
+    → byte_step (st h false false true) x ≡ record { state = st h false false true; put = x ∷ []; out = Ok None }
 unfolding byte_step more
 over_step h x l e = simp (e, le-ltb h 1024 l, le-leb 1024 h l)
 
@@ -100,7 +86,7 @@ over_run (x ∷ xs) ys n h b l m p =
     ∙ over_run xs ys (suc n) h b l m (λ k w. p (suc k) (omega arith))
     ∙ ap (λ (m : ℕ). run m (st h false false true) b ys) s
 
--- ---- a turn of the loop of `pass_blocks`: a block of a part that has plain bytes only
+-- ---- a turn of the first loop of `pass`: a block of a part that has plain bytes only
 
 pub turn_block : (o : Bool) (R : Ran) (i h r : ℕ) (b c p d : List ℕ) → i + 16 ≤ length p → (o ≡ false → h + 16 ≤ 1024) → (o ≡ true → 1024 ≤ h)
     → length b ≡ 1024 → R ≡ run i (st h false false o) b (drop i p) → d ≡ take 16 (drop i p)
@@ -135,9 +121,14 @@ pub kept_large : (o : Bool) (h g : ℕ) → (o ≡ true → h ≡ g) → o ≡ t
 kept_large true h g s e = s refl
 kept_large false h g s e = absurd (false≢true e)
 
--- ---- bytes after blocks, of a line that is not too long
+pub kept_long : (o : Bool) (b d : List ℕ) (h : ℕ) → length (cond o b (sets b h d)) ≡ length b
+kept_long true b d h = refl
+kept_long false b d h = length-sets b h d
 
-pub then_bytes : (o : Bool) (R : Ran) (i j h g : ℕ) (b c d e : List ℕ) → o ≡ false → R ≡ run i (st h false false o) b d
-    → run i (st h false false false) b d ≡ run j (st g false false false) c e → R ≡ run j (st g false false o) c e
-then_bytes true R i j h g b c d e f p q = absurd (true≢false f)
-then_bytes false R i j h g b c d e f p q = p ∙ q
+-- what is stored of a block
+pub put_block : (b d : List ℕ) (held k : ℕ) → k ≡ 16 → length d ≡ 16 → held + 16 ≤ length b → put_mid held k b d ≡ sets b held d
+put_block b d held k f l h =
+    rw f
+    (ap (λ (t : List ℕ). take held b ++ (d ++ t)) (drop-drop 16 held b ∙ ap (λ (j : ℕ). drop (held + j) b) (sym l))
+    ∙ sym (append_assoc (take held b) d (drop (held + length d) b))
+    ∙ sym (sets-eq d b held (omega arith)))

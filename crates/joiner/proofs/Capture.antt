@@ -13,8 +13,6 @@ use native.Mathlib.Numerals.{add-one}
 use native.Mathlib.Nat.{le_refl, min-eq_left, min-eq_right}
 use borrow.Author.Tests.{lt-ltb, le-ltb, le-leb, lt-leb, ltb-true, ltb-false, eq-eqb}
 use Rattle.joiner.specs.declared.Joiner.{Joiner}
-use Rattle.joiner.specs.declared.Outcome.{Outcome}
-use Rattle.joiner.specs.declared.Outcome.TheVariants.{More, Line, Refused}
 use Rattle.joiner.specs.Step.{byte_step, step_by, st, start, more, stored, line_of, state_after, Effect}
 use Rattle.joiner.specs.declared.End.TheVariants
 use Rattle.joiner.specs.Join.{Ran, run, join_of, end_of}
@@ -23,6 +21,8 @@ use Rattle.joiner.specs.Lines.{cut, nothing, open_after, ending_from, ending_of}
 use Rattle.joiner.specs.Calls.{given_of, end_as, Calls, done, call}
 use Rattle.joiner.proofs.Laws.{is_more, cons_more, cons_stop}
 use Rattle.joiner.proofs.Reach.{Fine, fine_start, fine_step, of_fine, room, more_room, more_full}
+use Rattle.std.proofs.Common.{Result, Ok, Err, Option, Some, None}
+use Rattle.text.specs.declared.Refusal.{Refusal}
 
 -- ---- what the buffer and the count hold of the text
 
@@ -123,10 +123,10 @@ record Ends (n : ℕ) (s : Joiner) (t p q : List ℕ) (R : Ran) : Type 0 where
   left : open_after (open' t s.grave s.cr) (p ++ q)
       ≡ open_after (open' text R.answer.state.grave R.answer.state.cr) (drop count (p ++ q))
 
-given_more : (o : Outcome) (b : List ℕ) → is_more o ≡ true → given_of o b ≡ []
-given_more More b e = refl
-given_more (Line k) b e = absurd (false≢true e)
-given_more (Refused k p) b e = absurd (false≢true e)
+given_more : (o : Result (Option ℕ) Refusal) (b : List ℕ) → is_more o ≡ true → given_of o b ≡ []
+given_more (Ok None) b e = refl
+given_more (Ok (Some k)) b e = absurd (false≢true e)
+given_more (Err r) b e = absurd (false≢true e)
 
 -- the first byte's part in the lines
 first : (s : Joiner) (b t : List ℕ) (x : ℕ) (xs : List ℕ) → (c : Core s.held s.over b t)
@@ -201,7 +201,7 @@ end_as_lem : (s : Joiner) (b t : List ℕ) → Fine s → Core s.held s.over b t
 unfolding end_of ending_from open_after
 end_as_lem s b t f c = rw (of_fine s f, c.held, some_held t) (go (ltb 0 (length t) || s.grave))
   where
-    go : (w : Bool) → cond w TheVariants.Cut TheVariants.Nothing ≡ end_as (cond w cut nothing)
+    go : (w : Bool) → cond w (Ok TheVariants.Cut) (Ok TheVariants.Nothing) ≡ end_as (cond w cut nothing)
     go true = refl
     go false = refl
 

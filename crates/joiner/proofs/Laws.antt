@@ -9,17 +9,15 @@ use lib.Seq.{drop-cons}
 use lib.Dec.{eqb}
 use native.Mathlib.Omega.{arith}
 use native.Mathlib.Numerals.{add-one}
-use mathlib.Core.Logic.{◌⊎◌, ⊎_elim}
-use denote.Enum.Declared.{tag_of}
-use Rattle.joiner.specs.contracts.Outcome.{the_type}
 use borrow.Author.Tests.{ne_eqb, eqb-true, lt-ltb, lt-leb}
 use Rattle.joiner.specs.declared.Joiner.{Joiner}
 use Rattle.joiner.specs.declared.Stepped.{Stepped}
-use Rattle.joiner.specs.declared.Outcome.{Outcome}
-use Rattle.joiner.specs.declared.Outcome.TheVariants.{More, Line, Refused}
 use Rattle.joiner.specs.Lines.{ByteKind, CR, LF, GRAVE, plain, byte_kind, is_plain_byte}
 use Rattle.joiner.specs.Step.{byte_step, step_by, end_step, marks, gets, stored, pushed, st, stepped_of, reachable, more, Effect}
 use Rattle.joiner.specs.Join.{Ran, ran, run, go_on, join_of}
+use Rattle.std.proofs.Common.{Result, Ok, Err, Option, Some, None}
+use Rattle.text.specs.Room.{refusal_at}
+use Rattle.text.specs.declared.Refusal.{Refusal}
 
 -- ---- a byte's kind
 
@@ -83,43 +81,43 @@ module _ (s : Joiner) (x : ℕ) where
 -- ---- what an end of line does
 
 module _ (s : Joiner) (r : Bool) where
-  pub end_joins : s.grave ≡ true → record { state = st s.held false r s.over; outcome = More } ≡ stepped_of (end_step r s)
+  pub end_joins : s.grave ≡ true → record { state = st s.held false r s.over; outcome = Ok None } ≡ stepped_of (end_step r s)
   end_joins g = simp g
 
-  pub end_refused : (m : Joiner) → m ≡ st 0 false r false → s.grave ≡ false → s.over ≡ true → record { state = m; outcome = Refused 1 1024 } ≡ stepped_of (end_step r s)
+  pub end_refused : (m : Joiner) → m ≡ st 0 false r false → s.grave ≡ false → s.over ≡ true → record { state = m; outcome = Err (refusal_at 1 1024) } ≡ stepped_of (end_step r s)
   end_refused m e g o = simp (e, g, o)
 
-  pub end_line : (m : Joiner) → m ≡ st 0 false r false → s.grave ≡ false → s.over ≡ false → record { state = m; outcome = Line s.held } ≡ stepped_of (end_step r s)
+  pub end_line : (m : Joiner) → m ≡ st 0 false r false → s.grave ≡ false → s.over ≡ false → record { state = m; outcome = Ok (Some s.held) } ≡ stepped_of (end_step r s)
   end_line m e g o = simp (e, g, o)
 
 -- ---- what `step` leaves behind, from what its calls of `marked` and `push` left behind
 
 module _ (s m r₁ : Joiner) (b b₁ : List ℕ) (x : ℕ) (e : m ≡ (marks false s).state) where
   pub plain_done : (x ≡ 13 → ⊥) → (x ≡ 10 → ⊥) → (x ≡ 96 → ⊥) → s.grave ≡ false → r₁ ≡ pushed m → b₁ ≡ set b m.held x
-      → Done s b x (record { state = r₁; outcome = More }) b₁
+      → Done s b x (record { state = r₁; outcome = Ok None }) b₁
   plain_done h₁ h₂ h₃ g e₁ f₁ = rw (step_plain s x h₁ h₂ h₃ g) (rw (e₁, e) refl, rw (f₁, e) refl)
 
   pub pair_done : (r₂ : Joiner) (b₂ : List ℕ) → (x ≡ 13 → ⊥) → (x ≡ 10 → ⊥) → s.grave ≡ true
       → r₁ ≡ pushed m → b₁ ≡ set b m.held 96 → r₂ ≡ pushed r₁ → b₂ ≡ set b₁ r₁.held x
-      → Done s b x (record { state = r₂; outcome = More }) b₂
+      → Done s b x (record { state = r₂; outcome = Ok None }) b₂
   pair_done r₂ b₂ h₁ h₂ g e₁ f₁ e₂ f₂ = rw (step_pair s x h₁ h₂ g) (rw (e₂, e₁, e) refl, rw (f₂, f₁, e₁, e) refl)
 
 -- ---- a call, with one byte more
 
-abbrev pub is_more : Outcome → Bool
-is_more More = true
-is_more (Line k) = false
-is_more (Refused k p) = false
+abbrev pub is_more : Result (Option ℕ) Refusal → Bool
+is_more (Ok None) = true
+is_more (Ok (Some k)) = false
+is_more (Err e) = false
 
-on_more : (o : Outcome) {r : Ran} (d : Ran) → is_more o ≡ true → go_on o r d ≡ r
-on_more More d e = refl
-on_more (Line k) d e = absurd (false≢true e)
-on_more (Refused k q) d e = absurd (false≢true e)
+on_more : (o : Result (Option ℕ) Refusal) {r : Ran} (d : Ran) → is_more o ≡ true → go_on o r d ≡ r
+on_more (Ok None) d e = refl
+on_more (Ok (Some k)) d e = absurd (false≢true e)
+on_more (Err r) d e = absurd (false≢true e)
 
-on_stop : (o : Outcome) (r : Ran) {d : Ran} → is_more o ≡ false → go_on o r d ≡ d
-on_stop More r e = absurd (true≢false e)
-on_stop (Line k) r e = refl
-on_stop (Refused k q) r e = refl
+on_stop : (o : Result (Option ℕ) Refusal) (r : Ran) {d : Ran} → is_more o ≡ false → go_on o r d ≡ d
+on_stop (Ok None) r e = absurd (true≢false e)
+on_stop (Ok (Some k)) r e = refl
+on_stop (Err x) r e = refl
 
 module _ (n : ℕ) (s : Joiner) (b : List ℕ) (x : ℕ) (xs : List ℕ) where
   pub cons_more : is_more (byte_step s x).out ≡ true
@@ -132,18 +130,7 @@ module _ (n : ℕ) (s : Joiner) (b : List ℕ) (x : ℕ) (xs : List ℕ) where
   unfolding run
   cons_stop e = on_stop (byte_step s x).out _ e
 
--- ---- a turn of the loop of `join`: what is known of the byte's step, and where the call then is
-
--- the arms of the `match`, by the tag
-pub tag_more : (o : Outcome) → tag_of the_type o ≡ 0 → is_more o ≡ true
-tag_more More h = refl
-tag_more (Line k) h = absurd (omega arith)
-tag_more (Refused k p) h = absurd (omega arith)
-
-pub tag_stop : (o : Outcome) → (tag_of the_type o ≡ 1) ⊎ (tag_of the_type o ≡ 2) → is_more o ≡ false
-tag_stop More h = absurd (⊎_elim (λ e. omega arith) (λ e. omega arith) h)
-tag_stop (Line k) h = refl
-tag_stop (Refused k p) h = refl
+-- ---- a turn of the loop of `take`: what is known of the byte's step, and where the call then is
 
 module _ (R : Ran) (i : ℕ) (s : Joiner) (b p : List ℕ) (h : i < length p) (inv : R ≡ run i s b (drop i p))
     (r : Stepped) (b' : List ℕ) (d : Done s b (get_or p i 0) r b') where
@@ -161,9 +148,9 @@ module _ (R : Ran) (i : ℕ) (s : Joiner) (b p : List ℕ) (h : i < length p) (i
       ∙ cons_stop i s b (get_or p i 0) (drop (suc i) p) (ap (λ (q : Stepped). is_more q.outcome) (sym d.0) ∙ m)
       ∙ rw (d.0, d.1, add-one i) refl
 
--- a turn of the loop of `copy_bytes`: a plain byte where there is room
+-- a turn of the second loop of `pass`: a plain byte where there is room
 pub plain_step : (h x : ℕ) → h < 1024 → byte_kind x ≡ plain
-    → byte_step (st h false false false) x ≡ record { state = st (h + 1) false false false; put = x ∷ []; out = More }
+    → byte_step (st h false false false) x ≡ record { state = st (h + 1) false false false; put = x ∷ []; out = Ok None }
 unfolding byte_step more
 plain_step h x l e = simp (e, lt-ltb h 1024 l, lt-leb 1024 h l)
 
@@ -178,16 +165,6 @@ turn_plain R i h b p l m inv e =
     ∙ cons_more i s b x (drop (suc i) p) (ap (λ (t : Effect). is_more t.out) f)
     ∙ ap (λ (t : Effect). run (suc i) t.state (stored h b t.put) (drop (suc i) p)) f
     ∙ rw (add-one i) refl
-
--- a run of plain bytes from a state in which no GRAVE waits and no CR was just seen
-pub unmarked : (s : Joiner) (i j h : ℕ) (b c d e : List ℕ) → s.grave ≡ false → s.cr ≡ false
-    → run i (st s.held false false s.over) b d ≡ run j (st h false false s.over) c e
-    → run i s b d ≡ run j (st h s.grave s.cr s.over) c e
-unmarked s i j h b c d e = go s.grave s.cr
-  where
-    go : (g r : Bool) → g ≡ false → r ≡ false → run i (st s.held false false s.over) b d ≡ run j (st h false false s.over) c e
-        → run i (st s.held g r s.over) b d ≡ run j (st h g r s.over) c e
-    go g r p q k = rw (p, q) k
 
 -- a call that is not refused has a buffer of 1,024 bytes, and answers as its run does
 pub fits_length : (s : Joiner) (b : List ℕ) → eqb (length b) 1024 && reachable s ≡ true → length b ≡ 1024
@@ -204,13 +181,8 @@ fits_state s b e = go (eqb (length b) 1024) e
     go true e = e
     go false e = absurd (false≢true e)
 
-pub answered : (s : Joiner) (b p : List ℕ) (R : Ran) → eqb (length b) 1024 && reachable s ≡ true → run 0 s b p ≡ R
-    → (R.answer ≡ (join_of s b p).answer) × (R.buffer ≡ (join_of s b p).buffer)
-unfolding join_of
-answered s b p R h e = rw (h, e) (refl, refl)
-
 -- the part is used up
-pub run_end_lem : (n : ℕ) (s : Joiner) (b p : List ℕ) → length p ≤ n → run n s b (drop n p) ≡ ran s n More b
+pub run_end_lem : (n : ℕ) (s : Joiner) (b p : List ℕ) → length p ≤ n → run n s b (drop n p) ≡ ran s n (Ok None) b
 unfolding run
 run_end_lem n s b p h = rw (drop_of_length-le p h)
 
@@ -230,6 +202,6 @@ pub used_within : (s : Joiner) (b p : List ℕ) → (join_of s b p).answer.used 
 unfolding join_of
 used_within s b p = go (eqb (length b) 1024 && reachable s)
   where
-    go : (t : Bool) → (cond t (run 0 s b p) (ran s 0 (Refused 19 0) b)).answer.used ≤ length p
+    go : (t : Bool) → (cond t (run 0 s b p) (ran s 0 (Err (refusal_at 19 0)) b)).answer.used ≤ length p
     go true = omega (arith, run_used 0 s b p)
     go false = omega arith

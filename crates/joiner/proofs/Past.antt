@@ -13,19 +13,20 @@ use lib.Dec.{eqb}
 use borrow.Author.Tests.{eqb-true, eq-eqb}
 use lib.Seq.{drop-set-lt, drop-drop, set_out}
 use Rattle.joiner.specs.declared.Joiner.{Joiner}
-use Rattle.joiner.specs.declared.Outcome.{Outcome}
-use Rattle.joiner.specs.declared.Outcome.TheVariants.{More, Line, Refused}
 use Rattle.joiner.specs.Lines.{ByteKind, CR, LF, GRAVE, plain, byte_kind}
 use Rattle.joiner.specs.Step.{byte_step, step_by, st, more, stored, reachable}
 use Rattle.joiner.specs.Join.{Ran, ran, run, join_of}
 use Rattle.joiner.proofs.Laws.{is_more, cons_more, cons_stop}
 use Rattle.joiner.proofs.Reach.{Fine, to_fine, of_fine, fine_step, room, more_room, more_full}
+use Rattle.std.proofs.Common.{Result, Ok, Err, Option, Some, None}
+use Rattle.text.specs.Room.{refusal_at}
+use Rattle.text.specs.declared.Refusal.{Refusal}
 
 -- how far the text reaches: what is held, or the line just ended
-abbrev pub reach : Outcome → ℕ → ℕ
-reach More h = h
-reach (Line n) h = n
-reach (Refused k n) h = n
+abbrev pub reach : Result (Option ℕ) Refusal → ℕ → ℕ
+reach (Ok None) h = h
+reach (Ok (Some n)) h = n
+reach (Err e) h = e.place
 
 -- what agrees from h on agrees from any later place on
 later : (h k : ℕ) (b c : List ℕ) → h ≤ k → drop h b ≡ drop h c → drop k b ≡ drop k c
@@ -118,7 +119,7 @@ unfolding join_of
 past_join s b p = go (eqb (length b) 1024) (reachable s) refl refl
   where
     go : (t u : Bool) → eqb (length b) 1024 ≡ t → reachable s ≡ u
-        → let R : Ran = cond (t && u) (run 0 s b p) (ran s 0 (Refused 19 0) b) in
+        → let R : Ran = cond (t && u) (run 0 s b p) (ran s 0 (Err (refusal_at 19 0)) b) in
         let k : ℕ = reach R.answer.outcome R.answer.state.held in
         drop k R.buffer ≡ drop k b
     go true true e f = (past 0 s b p (to_fine s f) (eqb-true (length b) 1024 e)).same
@@ -131,13 +132,13 @@ unfolding join_of run
 empty_part s b = go (eqb (length b) 1024 && reachable s)
   where
     go : (t : Bool)
-        → let R : Ran = cond t (ran s 0 More b) (ran s 0 (Refused 19 0) b) in
+        → let R : Ran = cond t (ran s 0 (Ok None) b) (ran s 0 (Err (refusal_at 19 0)) b) in
         (R.answer.state ≡ s) × (R.answer.used ≡ 0) × (R.buffer ≡ b)
     go true = (refl, refl, refl)
     go false = (refl, refl, refl)
 
 -- a buffer of another length, or a state that no capture leads to, is refused as 19 with nothing used and nothing changed
-pub refused_whole : (s : Joiner) (b p : List ℕ) → eqb (length b) 1024 && reachable s ≡ false → join_of s b p ≡ ran s 0 (Refused 19 0) b
+pub refused_whole : (s : Joiner) (b p : List ℕ) → eqb (length b) 1024 && reachable s ≡ false → join_of s b p ≡ ran s 0 (Err (refusal_at 19 0)) b
 unfolding join_of
 refused_whole s b p e = rw e
 
@@ -161,7 +162,7 @@ unfolding join_of
 more_uses_all s b p = go (eqb (length b) 1024 && reachable s)
   where
     go : (t : Bool)
-        → let R : Ran = cond t (run 0 s b p) (ran s 0 (Refused 19 0) b) in
+        → let R : Ran = cond t (run 0 s b p) (ran s 0 (Err (refusal_at 19 0)) b) in
         is_more R.answer.outcome ≡ true → R.answer.used ≡ length p
     go true h = omega (arith, run_all 0 s b p h)
     go false h = absurd (false≢true h)

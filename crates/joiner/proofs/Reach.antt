@@ -113,6 +113,10 @@ of_fine s f = simp (le-leb s.held 1024 f.within) (go s.grave s.cr s.over f.full 
     go false r true a b = simp (le-leb 1024 s.held (a refl))
     go false r false a b = refl
 
+-- another number of bytes may be held
+pub held_reachable : (s : Joiner) (h : ℕ) → reachable s ≡ true → h ≤ 1024 → (s.over ≡ true → 1024 ≤ h) → reachable (st h s.grave s.cr s.over) ≡ true
+held_reachable s h r w f = of_fine _ (record { within = w; full = f; apart = (to_fine s r).apart })
+
 -- what `step` answers is a state that is not refused
 pub step_reachable : (s : Joiner) (x : ℕ) (r : Stepped) → reachable s ≡ true → r ≡ stepped_of (byte_step s x) → reachable r.state ≡ true
 step_reachable s x r h e = rw e (of_fine (byte_step s x).state (fine_step s x (to_fine s h)))

@@ -3,9 +3,10 @@ use Rattle.std.specs.Prelude.{ℕ, ◌+◌, Bool, true, false, not, ◌&&◌, �
 use mathlib.Core.List.{List, [], ◌∷◌, foldl}
 use Rattle.joiner.specs.declared.Joiner.{Joiner}
 use Rattle.joiner.specs.declared.Stepped.{Stepped}
-use Rattle.joiner.specs.declared.Outcome.{Outcome}
-use Rattle.joiner.specs.declared.Outcome.TheVariants.{More, Line, Refused}
 use Rattle.joiner.specs.Lines.{ByteKind, CR, LF, GRAVE, plain, byte_kind}
+use Rattle.std.specs.Prelude.{Result, Ok, Err, Option, Some, None}
+use Rattle.text.specs.Room.{refusal_at}
+use Rattle.text.specs.declared.Refusal.{Refusal}
 
 -- a state by its parts: the bytes held, whether a GRAVE waits, whether the last byte was a CR, whether the line is too long
 abbrev pub st : ℕ → Bool → Bool → Bool → Joiner
@@ -39,19 +40,19 @@ stored h b (x ∷ xs) = stored (more h) (set b h x) xs
 pub record Effect : Type 0 where
   pub state : Joiner
   pub put : List ℕ
-  pub out : Outcome
+  pub out : Result (Option ℕ) Refusal
 
-abbrev pub line_of : Bool → ℕ → Outcome
-line_of false h = Line h
-line_of true h = Refused 1 1024
+abbrev pub line_of : Bool → ℕ → Result (Option ℕ) Refusal
+line_of false h = Ok (Some h)
+line_of true h = Err (refusal_at 1 1024)
 
 -- an end of line: with a GRAVE before it both vanish and the line goes on; otherwise the line is given, or refused
 abbrev pub end_state : Bool → Bool → Joiner → Joiner
 end_state true r s = st s.held false r s.over
 end_state false r s = st 0 false r false
 
-abbrev pub end_out : Bool → Joiner → Outcome
-end_out true s = More
+abbrev pub end_out : Bool → Joiner → Result (Option ℕ) Refusal
+end_out true s = Ok None
 end_out false s = line_of s.over s.held
 
 abbrev pub end_step : Bool → Joiner → Effect
@@ -59,11 +60,11 @@ end_step r s = record { state = end_state s.grave r s; put = []; out = end_out s
 
 -- the line gets these bytes
 abbrev pub gets : List ℕ → Joiner → Effect
-gets xs s = record { state = pushes (st s.held false false s.over) xs; put = xs; out = More }
+gets xs s = record { state = pushes (st s.held false false s.over) xs; put = xs; out = Ok None }
 
 -- nothing but the flags changes: whether a GRAVE waits is as given
 abbrev pub marks : Bool → Joiner → Effect
-marks g s = record { state = st s.held g false s.over; put = []; out = More }
+marks g s = record { state = st s.held g false s.over; put = []; out = Ok None }
 
 -- by the kind of the byte, whether a GRAVE waits, and whether the last byte was a CR
 abbrev pub step_by : ByteKind → Bool → Bool → ℕ → Joiner → Effect

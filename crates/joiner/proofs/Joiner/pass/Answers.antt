@@ -1,26 +1,61 @@
--- `joiner::Joiner::pass` meets its contract: where no GRAVE waits and no CR was just seen it is `pass_plain`'s, and otherwise nothing is done.
--- Assumes nothing.
-use native.Mathlib.Nat.{le_refl}
-use mathlib.Core.Path.{refl}
-use Rattle.joiner.proofs.Laws.{unmarked}
-use Rattle.joiner.proofs.Reach.{to_fine, of_fine}
+use Rattle.std.proofs.Common.{◌≡◌, ◌+◌, ◌-◌, ◌≤◌, cond, rules, arith, sym, ap, length, ◌∙◌}
+use mathlib.Core.Bool.{true≢false}
+use lib.Seq.{sets, take-take}
+use Rattle.joiner.proofs.Blocks.{not_true, not_false, turn_block, kept_small, kept_large, kept_long, put_block}
+use Rattle.joiner.proofs.Laws.{turn_plain}
+use Rattle.joiner.proofs.Reach.{to_fine, held_reachable}
 use Rattle.joiner.proofs.Joiner.pass.Goals as goal
+use Rattle.joiner.proofs.Joiner.pass.Goals.{then-not-self, else-not-self}
 
-pub returns-then-self : goal.returns-then-self
-returns-then-self c = let p = c.requires in record { at_le_at = le_refl _; at_in_bounds_2 = p.at_in_bounds; over_value = p.self_value; part_value = refl }
+pub limit-end-requires : goal.limit-end-requires
+limit-end-requires c = record { held_bound = (to_fine c.args.self c.requires.self_value).within; at_in_bounds = c.requires.at_in_bounds }
 
-pub returns-then-self-2 : goal.returns-then-self-2
-returns-then-self-2 c = let p = c.requires in record { at_le_at = le_refl _; at_in_bounds_2 = p.at_in_bounds; over_value = p.self_value; part_value = refl }
+pub loop-block-preserved : goal.loop-block-preserved
+loop-block-preserved c =
+    let l = c.loop-block in
+    let a = c.args in
+    let o = a.self.over in
+    let d = c.in-Some.ensures.cases.same in
+    let j = c.if-not-self in
+    let whole : 16 ≤ c.limit-end.result - l.at = search rules in
+    let held : j.held ≡ cond o l.held (l.held + 16) = elim j.branch [
+      | then-not-self w ↦ rw (not_true _ w.if-not-self.true) w.held-is
+      | else-not-self w ↦ rw (not_false _ w.if-not-self.false) w.held-is
+    ] in
+    let kept : j.buffer ≡ cond o l.buffer (sets l.buffer l.held c.in-Some.field-0.now) = elim j.branch [
+      | then-not-self w ↦
+          let r = l.invariant.room (not_true _ w.if-not-self.true) in
+          rw (not_true _ w.if-not-self.true, ← w.copy_from_slice.ensures.after) (w.buffer-is ∙ put_block l.buffer w.copy_from_slice.new.self l.held _ (omega arith) (search rules) (omega arith))
+      | else-not-self w ↦ rw (not_false _ w.if-not-self.false) w.buffer-is
+    ] in
+    record {
+      from = omega arith;
+      within = omega arith;
+      room = λ e. omega (arith, held, kept_small o _ l.at l.held (omega arith) l.invariant.room e);
+      same_held = λ e. held ∙ kept_large o l.held a.self.held l.invariant.same_held e;
+      long = ap length kept ∙ kept_long o l.buffer c.in-Some.field-0.now l.held ∙ l.invariant.long;
+      goes_on = turn_block o _ l.at l.held _ l.buffer _ a.part.now c.in-Some.field-0.now (omega arith) (λ e. omega (arith, l.invariant.room e)) (λ e. omega (arith, l.invariant.same_held e, (to_fine a.self c.requires.self_value).full e)) l.invariant.long
+          l.invariant.goes_on (d ∙ take-take 16 _ _ whole) (c.all_plain.ensures c.if-not-all_plain.false) held kept;
+    }
 
-pub pass_plain-requires : goal.pass_plain-requires
-pass_plain-requires c =
-    let w = c in
-    let f = to_fine w.args.self w.requires.self_value in
-    record { buffer_len = w.requires.buffer_len; held_bound = f.within; le_held = f.full; at_in_bounds = w.requires.at_in_bounds }
+pub loop-at-init : goal.loop-at-init
+loop-at-init c =
+    let l = c.loop-block in
+    record { from = l.invariant.from; within = l.invariant.within; room = l.invariant.room c.if-self-3.false; long = l.invariant.long; goes_on = rw c.if-self-3.false at l.invariant.goes_on }
 
-pub returns : goal.returns
-returns c =
-    let k = c.pass_plain in
-    let t = c in
-    let w = t in
-    let f = to_fine w.args.self w.requires.self_value in record { at_le_at = k.ensures.at_le_at; at_in_bounds_2 = k.ensures.at_in_bounds_2; over_value = of_fine _ (record { within = k.ensures.held_bound_2; full = k.ensures.le_held_2; apart = f.apart }); part_value = unmarked w.args.self _ _ _ _ _ _ _ t.if-self.false t.if-self-2.false k.ensures.part_value }
+pub loop-at-preserved : goal.loop-at-preserved
+loop-at-preserved c =
+    let l = c.loop-at in
+    record {
+      from = omega arith;
+      within = omega arith;
+      room = omega arith;
+      long = search rules;
+      goes_on = turn_plain _ l.at l.held l.buffer _ (omega arith) (omega arith) l.invariant.goes_on (sym c.ordinary.ensures ∙ c.if-ordinary.true);
+    }
+
+pub returns-else-ordinary-clause-over_value : goal.returns-else-ordinary-clause-over_value
+returns-else-ordinary-clause-over_value c = held_reachable c.args.self _ c.requires.self_value (omega arith) (λ e. absurd (true≢false (sym e ∙ c.if-self-3.false)))
+
+pub returns-after-loop-at-clause-over_value : goal.returns-after-loop-at-clause-over_value
+returns-after-loop-at-clause-over_value c = held_reachable c.args.self _ c.requires.self_value (omega arith) (λ e. absurd (true≢false (sym e ∙ c.if-self-3.false)))
