@@ -4,12 +4,13 @@ use mathlib.Core.Path.{◌≡◌, refl, sym, ap, ◌∙◌}
 use mathlib.Core.List.{List, [], ◌∷◌, ◌++◌}
 use mathlib.Core.Bool.{Bool, true, false, cond, not, ◌&&◌}
 use native.Mathlib.Omega.{arith}
-use lib.ListN.{length, get_or, drop, drop_of_length-le}
+use lib.ListN.{length}
+use Rattle.std.specs.List.{count_by}
+use Rattle.std.proofs.lemmas.List.Sums.{sum_by-cons}
 use borrow.Author.Tests.{eqb-true}
 use Rattle.text.specs.Lists.{any_of, onto, parts, is_nil}
 use Rattle.text.proofs.Tests.{or_l, or_r, no_case}
 use Rattle.text.proofs.Parts.{parts_some}
-use Rattle.text.proofs.Scans.{drop_step}
 use Rattle.terms.specs.declared.Mode.{Mode}
 use Rattle.terms.specs.declared.Mode.TheVariants.{Out, OutGrave, In, InGrave}
 use Rattle.terms.specs.Signs.{Sign, bare, after, gives, at_end, signs, raw}
@@ -58,21 +59,10 @@ module _ {A : Type 0} (f : A → Bool) where
       let ih = parts_over a r (or_r (f x) (any_of f a) e) in
       omega arith
 
--- the text from a place on: one byte more, which is at most one space, and past its end
-module _ (l : List ℕ) (i : ℕ) where
-  pub spaces_on : (n : ℕ) → i < length l → n ≡ cond (is_space (get_or l i 0)) 1 0 → length (parts is_space (drop i l)) ≡ n + length (parts is_space (drop (i + 1) l))
-  spaces_on n h e = rw (drop_step l i h, e) (parts_count is_space (get_or l i 0) (drop (i + 1) l))
-
-  pub space_one : (n : ℕ) → n ≡ cond (is_space (get_or l i 0)) 1 0 → n ≤ 1
-  space_one n e = go (is_space (get_or l i 0)) e
-    where
-      go : (t : Bool) → n ≡ cond t 1 0 → n ≤ 1
-      go true z = omega arith
-      go false z = omega arith
-
-  pub spaces_past : length l ≤ i → length (parts is_space (drop i l)) ≡ 1
-  unfolding parts
-  spaces_past h = rw (drop_of_length-le l h)
+-- a text has one part more than spaces
+pub spaces_counted : (s : List ℕ) → length (parts is_space s) ≡ count_by is_space s + 1
+spaces_counted [] = unfold parts in refl
+spaces_counted (b ∷ s) = omega (arith, parts_count is_space b s, spaces_counted s, sum_by-cons (λ x. cond (is_space x) 1 0) b s)
 
 -- each term takes a part of its own
 terms_parts : (i : ℕ) (g : Bool) (xs : List Sign) → length (terms_from i g xs) + 1 ≤ length (parts is_gap xs) + cond g 1 0

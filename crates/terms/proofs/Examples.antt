@@ -6,8 +6,6 @@ use mathlib.Core.Path.{◌≡◌, refl}
 use mathlib.Core.List.{List, [], ◌∷◌, map}
 use mathlib.Core.Bool.{Bool, true, false}
 use lib.ListN.{replicate}
-use Rattle.text.specs.declared.Verdict.{Verdict}
-use Rattle.text.specs.declared.Verdict.TheVariants.{Fine, Flawed}
 use Rattle.text.specs.Bytes.{bytes, one_of}
 use Rattle.text.specs.Lists.{any_of, up_to, run_len, walk}
 use Rattle.terms.specs.declared.Mode.TheVariants.{Out}
@@ -15,6 +13,9 @@ use Rattle.terms.specs.Signs.{Sign, twelve, two, after, gives, signs, raws, stan
 use Rattle.terms.specs.Marks.{has_mark, starts_bare}
 use Rattle.terms.specs.Terms.{Term, terms_from, terms_of}
 use Rattle.terms.specs.Rows.{long_flaw, odd_flaw, end_mode, opened_at, open_flaw, many_from, many_flaw, lexical_of}
+use Rattle.std.proofs.Common.{Result, Ok, Err}
+use Rattle.text.specs.Room.{refusal_at}
+use Rattle.text.specs.declared.Refusal.{Refusal}
 
 -- a term: where it starts, its bytes, and the bytes that it stands for
 abbrev Shown : Type 0
@@ -69,7 +70,7 @@ lines_terms = refl
 
 -- a line's bytes, and what rows 1 to 5 say of it
 abbrev Judged : Type 0
-Judged = List ℕ × Verdict
+Judged = List ℕ × Result Unit Refusal
 
 -- k terms of one byte, each with a space after it
 unfoldable pub pairs : ℕ → List ℕ
@@ -79,29 +80,29 @@ pairs (suc k) = 97 ∷ 32 ∷ pairs k
 abbrev pub judged : List Judged
 judged =
     -- 1,024 bytes, and one more
-    (replicate 1024 97, Fine) ∷
-    (replicate 1025 97, Flawed 1 1024) ∷
+    (replicate 1024 97, Ok tt) ∷
+    (replicate 1025 97, Err (refusal_at 1 1024)) ∷
     -- a long line is refused as 1, whatever it holds
-    (replicate 1025 9, Flawed 1 1024) ∷
+    (replicate 1025 9, Err (refusal_at 1 1024)) ∷
     -- a byte outside 20h to 7Eh, at the first such
-    (bytes "ab\tc\td", Flawed 2 2) ∷
-    (127 ∷ [], Flawed 2 0) ∷
+    (bytes "ab\tc\td", Err (refusal_at 2 2)) ∷
+    (127 ∷ [], Err (refusal_at 2 0)) ∷
     -- before a quote that is open
-    (bytes "\"\t", Flawed 2 1) ∷
+    (bytes "\"\t", Err (refusal_at 2 1)) ∷
     -- a lone last GRAVE; one that a GRAVE escapes; three of them
-    (bytes "a`", Flawed 3 1) ∷
-    (bytes "a``", Fine) ∷
-    (bytes "a```", Flawed 3 3) ∷
+    (bytes "a`", Err (refusal_at 3 1)) ∷
+    (bytes "a``", Ok tt) ∷
+    (bytes "a```", Err (refusal_at 3 3)) ∷
     -- in a quote 3 goes before 4
-    (bytes "x \"a`", Flawed 3 4) ∷
+    (bytes "x \"a`", Err (refusal_at 3 4)) ∷
     -- the quote that is left open, not the first
-    (bytes "\"a\" \"b", Flawed 4 4) ∷
+    (bytes "\"a\" \"b", Err (refusal_at 4 4)) ∷
     -- a quote that an escaped quote does not close
-    (bytes "reset \"os1`\"", Flawed 4 6) ∷
-    (bytes "reset \"os1", Flawed 4 6) ∷
+    (bytes "reset \"os1`\"", Err (refusal_at 4 6)) ∷
+    (bytes "reset \"os1", Err (refusal_at 4 6)) ∷
     -- 64 terms, and one more
-    (pairs 64, Fine) ∷
-    (pairs 65, Flawed 5 128) ∷
+    (pairs 64, Ok tt) ∷
+    (pairs 65, Err (refusal_at 5 128)) ∷
     []
 
 pub lines_judged : map {B = Judged} (λ (e : Judged). (e.0, lexical_of e.0)) judged ≡ judged

@@ -1,6 +1,7 @@
 pub mod ByteCases
 pub mod SignBytes
 pub mod Cuts
+pub mod Chains
 pub mod Bares
 pub mod NextTerm
 pub mod TermList

@@ -17,13 +17,13 @@ use Rattle.text.proofs.Slices.{length_between}
 use Rattle.text.proofs.Scans.{scan_within}
 use Rattle.terms.specs.declared.Mode.{Mode}
 use Rattle.terms.specs.declared.Mode.TheVariants.{Out, OutGrave, In, InGrave}
-use Rattle.terms.specs.declared.Found.{Found}
-use Rattle.terms.specs.declared.Found.TheVariants as found
 use Rattle.terms.specs.Signs.{Sign, twelve, after, gives, at_end, signs, raw, raws}
 use Rattle.terms.specs.Terms.{is_gap, Term, terms_from}
-use Rattle.terms.specs.Scan.{is_space, gap_byte, term_len, found, start_at, term_at}
+use Rattle.terms.specs.Scan.{is_space, gap_byte, term_len, found, start_at, term_at, span}
 use Rattle.terms.proofs.ByteCases.{gives_case, out_case, grave_first, end_case}
 use Rattle.terms.proofs.SignBytes.{pend, gives_width, raws_signs}
+use Rattle.std.proofs.Common.{Option, Some, None}
+use Rattle.terms.specs.declared.Span.{Span}
 
 -- ---- what one byte gives
 
@@ -113,9 +113,9 @@ out_head : (b : ℕ) (s : List ℕ) → eqb b 32 ≡ false → solid_head (signs
 unfolding signs solid_head
 out_head b s e = out_case (λ g n. solid_head (g ++ signs n s) ≡ true) b (λ _. grave_head s) (λ _ _. refl) (λ _ _. simp e)
 
-after_found : Found → List ℕ → List Term → List Term
-after_found found.None l r = []
-after_found (found.Term a n) l r = record { start = a; text = signs Out (take n l) } ∷ r
+after_found : Option Span → List ℕ → List Term → List Term
+after_found None l r = []
+after_found (Some e) l r = record { start = e.at; text = signs Out (take e.len l) } ∷ r
 
 -- at a gap's end
 no_gap : (b : ℕ) (s : List ℕ) → run_len is_space (b ∷ s) ≡ 0 → eqb b 32 ≡ false
@@ -175,20 +175,23 @@ terms_next l at =
     gap_skip at (drop at l) ∙ ap (λ s. terms_from (at + g) true (signs Out s)) (drop-drop g at l) ∙ at_term (at + g) (drop (at + g) l) z
     ∙ ap (λ s. after_found (found (at + g) n) (drop (at + g) l) (terms_from (at + g + n) true (signs Out s))) (drop-drop n (at + g) l)
 
-found_inv : (x y a n : ℕ) → found.Term a n ≡ found x y → (x ≡ a) × (y ≡ n) × (0 < n)
+found_inv : (x y a n : ℕ) → Some (span a n) ≡ found x y → (x ≡ a) × (y ≡ n) × (0 < n)
 unfolding found
 found_inv x zero a n e = let z : ◌≡◌ {A = ℕ} 0 1 = cc in absurd (omega arith)
-found_inv x (suc y) a n e = let p : suc y ≡ n = cc in (cc, p, omega arith)
+found_inv x (suc y) a n e =
+    let s : span a n ≡ span x (suc y) = cc in
+    let q : n ≡ suc y = ap (λ (s : Span). s.len) s in
+    (sym (ap (λ (s : Span). s.at) s), sym q, omega arith)
 
 -- what a scan that found a term says of the list of terms: this is the law that every loop over terms cites
-pub terms_some : (l : List ℕ) (at a n : ℕ) → found.Term a n ≡ term_at l at
+pub terms_some : (l : List ℕ) (at a n : ℕ) → Some (span a n) ≡ term_at l at
     → terms_from at true (signs Out (drop at l)) ≡ record { start = a; text = signs Out (take n (drop a l)) } ∷ terms_from (a + n) true (signs Out (drop (a + n) l))
 unfolding after_found term_at start_at here
 terms_some l at a n e =
     let f = found_inv (at + run_len is_space (drop at l)) (term_len Out (drop (at + run_len is_space (drop at l)) l)) a n e in
     terms_next l at ∙ rw (← e, f.1, f.0)
 
-pub terms_none : (l : List ℕ) (at : ℕ) → found.None ≡ term_at l at → terms_from at true (signs Out (drop at l)) ≡ []
+pub terms_none : (l : List ℕ) (at : ℕ) → None ≡ term_at l at → terms_from at true (signs Out (drop at l)) ≡ []
 unfolding after_found
 terms_none l at e = terms_next l at ∙ rw (← e)
 
@@ -204,7 +207,7 @@ pub record Within (l : List ℕ) (at a n : ℕ) : Type 0 where
   pub some : 0 < n
   pub fits : a + n ≤ length l
 
-pub term_within : (l : List ℕ) (at a n : ℕ) → found.Term a n ≡ term_at l at → Within l at a n
+pub term_within : (l : List ℕ) (at a n : ℕ) → Some (span a n) ≡ term_at l at → Within l at a n
 unfolding term_at start_at
 term_within l at a n e =
     let f = found_inv (at + run_len is_space (drop at l)) (term_len Out (drop (at + run_len is_space (drop at l)) l)) a n e in
@@ -216,12 +219,12 @@ term_within l at a n e =
     record { from = omega arith; some = r; fits = omega arith }
 
 -- at or past the end there is no term
-pub term_past_end : (l : List ℕ) (at : ℕ) → length l ≤ at → term_at l at ≡ found.None
+pub term_past_end : (l : List ℕ) (at : ℕ) → length l ≤ at → term_at l at ≡ None
 term_past_end l at h = go (term_at l at) refl
   where
-    go : (f : Found) → term_at l at ≡ f → term_at l at ≡ found.None
-    go found.None e = e
-    go (found.Term a n) e = let w = term_within l at a n (sym e) in let p = w.from in let q = w.some in let r = w.fits in absurd (omega arith)
+    go : (f : Option Span) → term_at l at ≡ f → term_at l at ≡ None
+    go None e = e
+    go (Some x) e = let w = term_within l at x.at x.len (sym e) in let p = w.from in let q = w.some in let r = w.fits in absurd (omega arith)
 
 -- a term's own bytes
 pub term_size : (l : List ℕ) (a n : ℕ) → a + n ≤ length l → length (raws (signs Out (take n (drop a l)))) ≡ n

@@ -4,12 +4,13 @@ use mathlib.Core.Path.{◌≡◌, refl}
 use mathlib.Core.Bool.{Bool, true, false, cond, not}
 use lib.Dec.{eqb}
 use borrow.Author.Tests.{eqb-true}
-use Rattle.text.specs.declared.Verdict.TheVariants.{Flawed}
 use Rattle.terms.specs.declared.Mode.{Mode}
 use Rattle.terms.specs.declared.Mode.TheVariants.{Out, OutGrave, In, InGrave}
 use Rattle.terms.specs.Signs.{after}
 use Rattle.terms.specs.Rows.{opens, end_flaw}
 use Rattle.terms.proofs.ByteCases.{out_case, in_case}
+use Rattle.std.proofs.Common.{Err}
+use Rattle.text.specs.Room.{refusal_at}
 
 abbrev pub mode_of : Bool → Bool → Mode
 mode_of false false = Out
@@ -44,6 +45,6 @@ module _ (inside taken mark : Bool) (b : ℕ) (e : mark ≡ cond taken false (eq
   quote-on i q q' f = rw (f, e) (quote-turns inside taken b i q)
 
 -- a line that ends in a GRAVE that escapes nothing, in quotes or not
-pub ends-taken : (inside : Bool) (n q : ℕ) → end_flaw (mode_of inside true) n q ≡ Flawed 3 (n - 1)
+pub ends-taken : (inside : Bool) (n q : ℕ) → end_flaw (mode_of inside true) n q ≡ Err (refusal_at 3 (n - 1))
 ends-taken true n q = refl
 ends-taken false n q = refl

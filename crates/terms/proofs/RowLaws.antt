@@ -9,8 +9,6 @@ use native.Mathlib.Nat.{add-zero}
 use lib.ListN.{length, get_or, length-append}
 use lib.Dec.{eqb}
 use borrow.Author.Tests.{eqb-true, eqb-false, ne_eqb, lt-ltb, le-ltb}
-use Rattle.text.specs.declared.Verdict.{Verdict}
-use Rattle.text.specs.declared.Verdict.TheVariants.{Fine, Flawed}
 use Rattle.text.specs.Bytes.{one_of, printable}
 use Rattle.text.specs.Lists.{all_of, run_len, walk}
 use Rattle.text.proofs.Tests.{no_case}
@@ -25,6 +23,9 @@ use Rattle.terms.specs.RowWords.{line_signs, is_lone, ends_lone, turns, ends_ope
 use Rattle.terms.proofs.Paper.{twelve_grave, two_grave, as_the_paper_says}
 use Rattle.terms.proofs.SignBytes.{pend, gives_width}
 use Rattle.terms.proofs.ByteCases.{gives_case, end_case}
+use Rattle.std.proofs.Common.{Result, Ok, Err}
+use Rattle.text.specs.Room.{refusal_at}
+use Rattle.text.specs.declared.Refusal.{Refusal}
 
 -- ---- row 2: the first byte that fails a test stands where the run of those that pass ends
 
@@ -140,19 +141,19 @@ mark_is : (line : List ℕ) → is_in (end_mode Out line) ≡ true → opened_at
 mark_is line k = mark_mode Out line 0 0 0 0 (omega arith) (λ e. refl) k ∙ ap (last_mark 0 0) (as_the_paper_says line)
 
 -- what stands at the line's end
-ends_lone_lem : (m : Mode) (n q : ℕ) → is_grave m ≡ true → end_flaw m n q ≡ Flawed 3 (n - 1)
+ends_lone_lem : (m : Mode) (n q : ℕ) → is_grave m ≡ true → end_flaw m n q ≡ Err (refusal_at 3 (n - 1))
 ends_lone_lem Out n q e = no_case (sym e)
 ends_lone_lem OutGrave n q e = refl
 ends_lone_lem In n q e = no_case (sym e)
 ends_lone_lem InGrave n q e = refl
 
-ends_open_lem : (m : Mode) (n q : ℕ) → is_grave m ≡ false → is_in m ≡ true → end_flaw m n q ≡ Flawed 4 q
+ends_open_lem : (m : Mode) (n q : ℕ) → is_grave m ≡ false → is_in m ≡ true → end_flaw m n q ≡ Err (refusal_at 4 q)
 ends_open_lem Out n q e f = no_case (sym f)
 ends_open_lem OutGrave n q e f = no_case (sym f)
 ends_open_lem In n q e f = refl
 ends_open_lem InGrave n q e f = no_case e
 
-ends_well : (m : Mode) (n q : ℕ) → is_grave m ≡ false → is_in m ≡ false → end_flaw m n q ≡ Fine
+ends_well : (m : Mode) (n q : ℕ) → is_grave m ≡ false → is_in m ≡ false → end_flaw m n q ≡ Ok tt
 ends_well Out n q e f = refl
 ends_well OutGrave n q e f = no_case e
 ends_well In n q e f = no_case f
@@ -160,18 +161,18 @@ ends_well InGrave n q e f = no_case f
 
 -- ---- row 5: k terms came before
 
-pub many_few : (k : ℕ) (ts : List Term) → k + length ts ≤ 64 → many_from k ts ≡ Fine
+pub many_few : (k : ℕ) (ts : List Term) → k + length ts ≤ 64 → many_from k ts ≡ Ok tt
 unfolding many_from
 many_few k [] h = refl
 many_few k (t ∷ ts) h = rw (ne_eqb k 64 (λ z. omega arith)) (many_few (k + 1) ts (omega arith))
 
-many_over : (k : ℕ) (ts : List Term) → k ≤ 64 → 64 < k + length ts → many_from k ts ≡ Flawed 5 (start_of (64 - k) ts)
+many_over : (k : ℕ) (ts : List Term) → k ≤ 64 → 64 < k + length ts → many_from k ts ≡ Err (refusal_at 5 (start_of (64 - k) ts))
 unfolding many_from start_of
 many_over k [] h g = absurd (omega arith)
 many_over k (t ∷ ts) h g = go (eqb k 64) refl (λ z. many_over (k + 1) ts z (omega arith))
   where
-    go : (x : Bool) → eqb k 64 ≡ x → (k + 1 ≤ 64 → many_from (k + 1) ts ≡ Flawed 5 (start_of (64 - (k + 1)) ts))
-        → cond (eqb k 64) (Flawed 5 t.start) (many_from (k + 1) ts) ≡ Flawed 5 (start_of (64 - k) (t ∷ ts))
+    go : (x : Bool) → eqb k 64 ≡ x → (k + 1 ≤ 64 → many_from (k + 1) ts ≡ Err (refusal_at 5 (start_of (64 - (k + 1)) ts)))
+        → cond (eqb k 64) (Err (refusal_at 5 t.start)) (many_from (k + 1) ts) ≡ Err (refusal_at 5 (start_of (64 - k) (t ∷ ts)))
     go true p ih = let z = eqb-true k 64 p in let e : 64 - k ≡ 0 = omega arith in rw (p, e)
     go false p ih =
         let n = eqb-false k 64 p in
@@ -180,11 +181,11 @@ many_over k (t ∷ ts) h g = go (eqb k 64) refl (λ z. many_over (k + 1) ts z (o
 
 -- ---- EACH ROW GIVES ITS NUMBER AND ITS PLACE
 
-give_1 : (line : List ℕ) (p : ℕ) → Row1 line p → lexical_of line ≡ Flawed 1 p
+give_1 : (line : List ℕ) (p : ℕ) → Row1 line p → lexical_of line ≡ Err (refusal_at 1 p)
 unfolding lexical_of long_flaw
 give_1 line p r = rw (lt-ltb 1024 (length line) r.over, r.at)
 
-give_2 : (line : List ℕ) (p : ℕ) → Row2 line p → lexical_of line ≡ Flawed 2 p
+give_2 : (line : List ℕ) (p : ℕ) → Row2 line p → lexical_of line ≡ Err (refusal_at 2 p)
 unfolding lexical_of long_flaw odd_flaw
 give_2 line p r =
     let e : run_len printable line ≡ p = first_run printable line p r.within r.odd r.first in
@@ -197,20 +198,20 @@ clean_line line h e =
     let n : run_len printable line ≡ length line = all_run printable line e in
     rw (le-ltb 1024 (length line) h, n, le-ltb (length line) (length line) (omega arith))
 
-give_3 : (line : List ℕ) (p : ℕ) → Row3 line p → lexical_of line ≡ Flawed 3 p
+give_3 : (line : List ℕ) (p : ℕ) → Row3 line p → lexical_of line ≡ Err (refusal_at 3 p)
 unfolding open_flaw
 give_3 line p r =
     clean_line line r.short r.clean
-    ∙ ap (λ (v : Verdict). or_else v (many_flaw line)) (ends_lone_lem (end_mode Out line) (length line) (opened_at Out 0 0 line) (sym (lone_is line) ∙ r.lone))
-    ∙ ap (Flawed 3) (sym r.at)
+    ∙ ap (λ (v : Result Unit Refusal). or_else v (many_flaw line)) (ends_lone_lem (end_mode Out line) (length line) (opened_at Out 0 0 line) (sym (lone_is line) ∙ r.lone))
+    ∙ ap (λ (p : ℕ). Err (refusal_at 3 p)) (sym r.at)
 
-give_4 : (line : List ℕ) (p : ℕ) → Row4 line p → lexical_of line ≡ Flawed 4 p
+give_4 : (line : List ℕ) (p : ℕ) → Row4 line p → lexical_of line ≡ Err (refusal_at 4 p)
 unfolding open_flaw
 give_4 line p r =
     let k : is_in (end_mode Out line) ≡ true = sym (open_is line) ∙ r.opened in
     clean_line line r.short r.clean
-    ∙ ap (λ (v : Verdict). or_else v (many_flaw line)) (ends_open_lem (end_mode Out line) (length line) (opened_at Out 0 0 line) (sym (lone_is line) ∙ r.paired) k)
-    ∙ ap (Flawed 4) (mark_is line k ∙ sym r.at)
+    ∙ ap (λ (v : Result Unit Refusal). or_else v (many_flaw line)) (ends_open_lem (end_mode Out line) (length line) (opened_at Out 0 0 line) (sym (lone_is line) ∙ r.paired) k)
+    ∙ ap (λ (p : ℕ). Err (refusal_at 4 p)) (mark_is line k ∙ sym r.at)
 
 -- rows 3 and 4 passed too
 closed_line : (line : List ℕ) → length line ≤ 1024 → all_of printable line ≡ true → ends_lone (line_signs line) ≡ false → ends_open (line_signs line) ≡ false
@@ -218,16 +219,16 @@ closed_line : (line : List ℕ) → length line ≤ 1024 → all_of printable li
 unfolding open_flaw many_flaw
 closed_line line h e f g =
     clean_line line h e
-    ∙ ap (λ (v : Verdict). or_else v (many_from 0 (terms_of line))) (ends_well (end_mode Out line) (length line) (opened_at Out 0 0 line) (sym (lone_is line) ∙ f) (sym (open_is line) ∙ g))
+    ∙ ap (λ (v : Result Unit Refusal). or_else v (many_from 0 (terms_of line))) (ends_well (end_mode Out line) (length line) (opened_at Out 0 0 line) (sym (lone_is line) ∙ f) (sym (open_is line) ∙ g))
 
-give_5 : (line : List ℕ) (p : ℕ) → Row5 line p → lexical_of line ≡ Flawed 5 p
+give_5 : (line : List ℕ) (p : ℕ) → Row5 line p → lexical_of line ≡ Err (refusal_at 5 p)
 give_5 line p r =
     let m = r.many in
     closed_line line r.short r.clean r.paired r.closed
     ∙ many_over 0 (terms_of line) (omega arith) (omega arith)
-    ∙ ap (Flawed 5) (sym r.at)
+    ∙ ap (λ (p : ℕ). Err (refusal_at 5 p)) (sym r.at)
 
-give_fine : (line : List ℕ) → NoRow line → lexical_of line ≡ Fine
+give_fine : (line : List ℕ) → NoRow line → lexical_of line ≡ Ok tt
 give_fine line r = let f = r.few in closed_line line r.short r.clean r.paired r.closed ∙ many_few 0 (terms_of line) (omega arith)
 
 -- ---- ONE OF THEM HOLDS
@@ -257,23 +258,23 @@ judged line = by (dec_lt 1024 (length line)) (dec_lt (run_len printable line) (l
 
 -- ---- EACH ROW IS GIVEN EXACTLY WHEN IT HOLDS AND NO EARLIER ONE DOES
 
-clash : {P : Type 0} (n m : ℕ) {q p : ℕ} → eqb n m ≡ false → Flawed n q ≡ Flawed m p → P
-clash n m h e = absurd (eqb-false n m h cc)
+clash : {P : Type 0} (n m : ℕ) {q p : ℕ} → eqb n m ≡ false → ◌≡◌ {A = Result Unit Refusal} (Err (refusal_at n q)) (Err (refusal_at m p)) → P
+clash n m {q} {p} h e = absurd (eqb-false n m h (let r : refusal_at n q ≡ refusal_at m p = cc in ap (λ (r : Refusal). r.number) r))
 
-flawed_fine : {P : Type 0} {n p : ℕ} → Flawed n p ≡ Fine → P
+flawed_fine : {P : Type 0} {n p : ℕ} → ◌≡◌ {A = Result Unit Refusal} (Err (refusal_at n p)) (Ok tt) → P
 flawed_fine e = absurd (let z : ◌≡◌ {A = ℕ} 0 1 = cc in omega arith)
 
-same_place : (n : ℕ) {q p : ℕ} → Flawed n q ≡ Flawed n p → q ≡ p
-same_place n e = cc
+same_place : (n : ℕ) {q p : ℕ} → ◌≡◌ {A = Result Unit Refusal} (Err (refusal_at n q)) (Err (refusal_at n p)) → q ≡ p
+same_place n {q} {p} e = let r : refusal_at n q ≡ refusal_at n p = cc in ap (λ (r : Refusal). r.place) r
 
 -- what is given is the verdict of the row that holds
-given_by : {P : Type 0} (line : List ℕ) {v : Verdict} → lexical_of line ≡ v
-    → (Row1 line 1024 → Flawed 1 1024 ≡ v → P)
-    → (Row2 line (run_len printable line) → Flawed 2 (run_len printable line) ≡ v → P)
-    → (Row3 line (length line - 1) → Flawed 3 (length line - 1) ≡ v → P)
-    → (Row4 line (last_mark 0 0 (line_signs line)) → Flawed 4 (last_mark 0 0 (line_signs line)) ≡ v → P)
-    → (Row5 line (start_of 64 (terms_of line)) → Flawed 5 (start_of 64 (terms_of line)) ≡ v → P)
-    → (NoRow line → Fine ≡ v → P) → P
+given_by : {P : Type 0} (line : List ℕ) {v : Result Unit Refusal} → lexical_of line ≡ v
+    → (Row1 line 1024 → Err (refusal_at 1 1024) ≡ v → P)
+    → (Row2 line (run_len printable line) → Err (refusal_at 2 (run_len printable line)) ≡ v → P)
+    → (Row3 line (length line - 1) → Err (refusal_at 3 (length line - 1)) ≡ v → P)
+    → (Row4 line (last_mark 0 0 (line_signs line)) → Err (refusal_at 4 (last_mark 0 0 (line_signs line))) ≡ v → P)
+    → (Row5 line (start_of 64 (terms_of line)) → Err (refusal_at 5 (start_of 64 (terms_of line))) ≡ v → P)
+    → (NoRow line → Ok tt ≡ v → P) → P
 given_by {P = P} line {v = v} e one two' three four five fine = go (judged line)
   where
     go : Case line → P
@@ -284,48 +285,48 @@ given_by {P = P} line {v = v} e one two' three four five fine = go (judged line)
     go (is5 r) = five r (sym (give_5 line (start_of 64 (terms_of line)) r) ∙ e)
     go (is_fine r) = fine r (sym (give_fine line r) ∙ e)
 
-only_1 : (line : List ℕ) (p : ℕ) → lexical_of line ≡ Flawed 1 p → Row1 line p
+only_1 : (line : List ℕ) (p : ℕ) → lexical_of line ≡ Err (refusal_at 1 p) → Row1 line p
 only_1 line p e =
     given_by line e (λ r z. subst (Row1 line) (same_place 1 z) r) (λ r z. clash 2 1 refl z) (λ r z. clash 3 1 refl z) (λ r z. clash 4 1 refl z) (λ r z. clash 5 1 refl z)
     (λ r z. flawed_fine (sym z))
 
-only_2 : (line : List ℕ) (p : ℕ) → lexical_of line ≡ Flawed 2 p → Row2 line p
+only_2 : (line : List ℕ) (p : ℕ) → lexical_of line ≡ Err (refusal_at 2 p) → Row2 line p
 only_2 line p e =
     given_by line e (λ r z. clash 1 2 refl z) (λ r z. subst (Row2 line) (same_place 2 z) r) (λ r z. clash 3 2 refl z) (λ r z. clash 4 2 refl z) (λ r z. clash 5 2 refl z)
     (λ r z. flawed_fine (sym z))
 
-only_3 : (line : List ℕ) (p : ℕ) → lexical_of line ≡ Flawed 3 p → Row3 line p
+only_3 : (line : List ℕ) (p : ℕ) → lexical_of line ≡ Err (refusal_at 3 p) → Row3 line p
 only_3 line p e =
     given_by line e (λ r z. clash 1 3 refl z) (λ r z. clash 2 3 refl z) (λ r z. subst (Row3 line) (same_place 3 z) r) (λ r z. clash 4 3 refl z) (λ r z. clash 5 3 refl z)
     (λ r z. flawed_fine (sym z))
 
-only_4 : (line : List ℕ) (p : ℕ) → lexical_of line ≡ Flawed 4 p → Row4 line p
+only_4 : (line : List ℕ) (p : ℕ) → lexical_of line ≡ Err (refusal_at 4 p) → Row4 line p
 only_4 line p e =
     given_by line e (λ r z. clash 1 4 refl z) (λ r z. clash 2 4 refl z) (λ r z. clash 3 4 refl z) (λ r z. subst (Row4 line) (same_place 4 z) r) (λ r z. clash 5 4 refl z)
     (λ r z. flawed_fine (sym z))
 
-only_5 : (line : List ℕ) (p : ℕ) → lexical_of line ≡ Flawed 5 p → Row5 line p
+only_5 : (line : List ℕ) (p : ℕ) → lexical_of line ≡ Err (refusal_at 5 p) → Row5 line p
 only_5 line p e =
     given_by line e (λ r z. clash 1 5 refl z) (λ r z. clash 2 5 refl z) (λ r z. clash 3 5 refl z) (λ r z. clash 4 5 refl z) (λ r z. subst (Row5 line) (same_place 5 z) r)
     (λ r z. flawed_fine (sym z))
 
-only_fine : (line : List ℕ) → lexical_of line ≡ Fine → NoRow line
+only_fine : (line : List ℕ) → lexical_of line ≡ Ok tt → NoRow line
 only_fine line e = given_by line e (λ r z. flawed_fine z) (λ r z. flawed_fine z) (λ r z. flawed_fine z) (λ r z. flawed_fine z) (λ r z. flawed_fine z) (λ r z. r)
 
-pub row_1 : (line : List ℕ) (p : ℕ) → (Row1 line p → lexical_of line ≡ Flawed 1 p) × (lexical_of line ≡ Flawed 1 p → Row1 line p)
+pub row_1 : (line : List ℕ) (p : ℕ) → (Row1 line p → lexical_of line ≡ Err (refusal_at 1 p)) × (lexical_of line ≡ Err (refusal_at 1 p) → Row1 line p)
 row_1 line p = (give_1 line p, only_1 line p)
 
-pub row_2 : (line : List ℕ) (p : ℕ) → (Row2 line p → lexical_of line ≡ Flawed 2 p) × (lexical_of line ≡ Flawed 2 p → Row2 line p)
+pub row_2 : (line : List ℕ) (p : ℕ) → (Row2 line p → lexical_of line ≡ Err (refusal_at 2 p)) × (lexical_of line ≡ Err (refusal_at 2 p) → Row2 line p)
 row_2 line p = (give_2 line p, only_2 line p)
 
-pub row_3 : (line : List ℕ) (p : ℕ) → (Row3 line p → lexical_of line ≡ Flawed 3 p) × (lexical_of line ≡ Flawed 3 p → Row3 line p)
+pub row_3 : (line : List ℕ) (p : ℕ) → (Row3 line p → lexical_of line ≡ Err (refusal_at 3 p)) × (lexical_of line ≡ Err (refusal_at 3 p) → Row3 line p)
 row_3 line p = (give_3 line p, only_3 line p)
 
-pub row_4 : (line : List ℕ) (p : ℕ) → (Row4 line p → lexical_of line ≡ Flawed 4 p) × (lexical_of line ≡ Flawed 4 p → Row4 line p)
+pub row_4 : (line : List ℕ) (p : ℕ) → (Row4 line p → lexical_of line ≡ Err (refusal_at 4 p)) × (lexical_of line ≡ Err (refusal_at 4 p) → Row4 line p)
 row_4 line p = (give_4 line p, only_4 line p)
 
-pub row_5 : (line : List ℕ) (p : ℕ) → (Row5 line p → lexical_of line ≡ Flawed 5 p) × (lexical_of line ≡ Flawed 5 p → Row5 line p)
+pub row_5 : (line : List ℕ) (p : ℕ) → (Row5 line p → lexical_of line ≡ Err (refusal_at 5 p)) × (lexical_of line ≡ Err (refusal_at 5 p) → Row5 line p)
 row_5 line p = (give_5 line p, only_5 line p)
 
-pub no_row : (line : List ℕ) → (NoRow line → lexical_of line ≡ Fine) × (lexical_of line ≡ Fine → NoRow line)
+pub no_row : (line : List ℕ) → (NoRow line → lexical_of line ≡ Ok tt) × (lexical_of line ≡ Ok tt → NoRow line)
 no_row line = (give_fine line, only_fine line)

@@ -1,16 +1,17 @@
 -- A run of ordinary bytes, outside quotes, changes nothing but the place. Assumes nothing.
-use Prim.Native.Nat.{ℕ, suc, ◌+◌, ◌-◌, ◌<◌, ◌≤◌}
+use Prim.Native.Nat.{ℕ, zero, suc, ◌+◌, ◌-◌, ◌*◌, ◌≤◌}
 use mathlib.Core.Path.{◌≡◌, refl, sym, ap, ◌∙◌}
 use mathlib.Core.List.{List, [], ◌∷◌}
 use mathlib.Core.Bool.{Bool, true, false, cond, not, ◌&&◌}
 use native.Mathlib.Omega.{arith}
-use lib.ListN.{length, take, drop}
+use lib.ListN.{length, take, drop, length-drop}
+use Rattle.std.specs.Simd.{first_chunks}
 use lib.Seq.{drop-drop}
 use lib.Dec.{eqb}
-use Rattle.text.specs.Lists.{any_of, run_len, walk}
+use Rattle.text.specs.Lists.{all_of, any_of, run_len, walk}
 use Rattle.text.proofs.Tests.{and_l, and_r}
-use Rattle.text.proofs.Scans.{run_within}
-use Rattle.text.proofs.Slices.{part_from, length_from}
+use Rattle.text.proofs.Scans.{run_part}
+use Rattle.text.proofs.Slices.{part_from}
 use Rattle.terms.specs.declared.Mode.TheVariants.{Out}
 use Rattle.terms.specs.Signs.{after, gives, signs, is_bare}
 use Rattle.terms.specs.Rows.{end_mode, opened_at}
@@ -45,21 +46,31 @@ run_term (b ∷ s) = go (ordinary 32 b) refl (run_term s)
     go true e ih = simp (e, not_stop 32 b e, stays 32 b e) (omega arith)
     go false e ih = ap (λ (x : Bool). cond x (suc (run_len (ordinary 32) s)) 0 + term_len Out (drop (cond x (suc (run_len (ordinary 32) s)) 0) (b ∷ s))) e ∙ unfold term_len in (let z : 0 + term_len Out (b ∷ s) ≡ term_len Out (b ∷ s) = omega arith in z)
 
--- a term from a place on, past the run that stands there; the run was looked for in the part from that place on
-pub term_run : (l : List ℕ) (at n r : ℕ) → n ≡ run_len (ordinary 32) (take (length l - at) (drop at l)) → r ≡ at + n + term_len Out (drop (at + n) l)
-    → r ≡ at + term_len Out (drop at l)
-term_run l at n r e f =
-    let k : n ≡ run_len (ordinary 32) (drop at l) = e ∙ ap (run_len (ordinary 32)) (part_from l at) in
-    let d : drop (at + n) l ≡ drop (run_len (ordinary 32) (drop at l)) (drop at l) = ap (λ (x : ℕ). drop (at + x) l) k ∙ sym (drop-drop (run_len (ordinary 32) (drop at l)) at l) in
-    let t = run_term (drop at l) in
-    let u = ap (term_len Out) d in
-    omega arith
+-- a text's first term goes on past the run that it begins with as from there
+pub term_run : (s : List ℕ) (n r : ℕ) → n ≡ run_len (ordinary 32) s → r ≡ term_len Out (take (length s - n) (drop n s)) → n + r ≡ term_len Out s
+term_run s n r e f =
+    let d = ap (term_len Out) (part_from s n) in
+    let k = ap (λ (x : ℕ). term_len Out (drop x s)) e in
+    omega (arith, run_term s)
 
--- such a run ends inside the line
-pub run_fits : (l : List ℕ) (at n : ℕ) → at < length l → n ≡ run_len (ordinary 32) (take (length l - at) (drop at l)) → at + n ≤ length l
-run_fits l at n h e =
-    let w = run_within (ordinary 32) (take (length l - at) (drop at l)) in
-    omega (arith, length_from l at)
+-- the blocks of sixteen that a text begins with, as far as all their bytes pass a test
+pub run_blocks : (f : ℕ → Bool) (k : ℕ) (s : List ℕ) → 16 * k ≤ length s
+    → 16 * run_len (all_of f) (first_chunks 16 k s) + run_len f (drop (16 * run_len (all_of f) (first_chunks 16 k s)) s) ≡ run_len f s
+unfolding run_len
+run_blocks f zero s h = omega arith
+run_blocks f (suc k) s h = go (all_of f (take 16 s)) refl (run_blocks f k (drop 16 s) (let e = length-drop 16 s in omega arith))
+  where
+    p : ℕ
+    p = run_len (all_of f) (first_chunks 16 k (drop 16 s))
+
+    go : (t : Bool) → all_of f (take 16 s) ≡ t → 16 * p + run_len f (drop (16 * p) (drop 16 s)) ≡ run_len f (drop 16 s)
+        → 16 * cond t (suc p) 0 + run_len f (drop (16 * cond t (suc p) 0) s) ≡ run_len f s
+    go true e ih =
+        let d : drop (16 * p) (drop 16 s) ≡ drop (16 * suc p) s = drop-drop (16 * p) 16 s ∙ (let z : 16 + 16 * p ≡ 16 * suc p = omega arith in ap (λ (x : ℕ). drop x s) z) in
+        let r = ap (run_len f) d in
+        let z = run_part f s 0 16 (omega arith) e in
+        omega arith
+    go false e ih = omega arith
 
 -- the mode at the end, and the quote that was opened last
 run_mode : (stop : ℕ) (s : List ℕ) → end_mode Out (drop (run_len (ordinary stop) s) s) ≡ end_mode Out s

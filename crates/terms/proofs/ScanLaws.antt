@@ -1,30 +1,29 @@
 -- What the loops do with the byte at a place, in each mode, and at a text's end. Assumes nothing.
 use Prim.Native.Nat.{ℕ, zero, suc, ◌+◌, ◌-◌, ◌<◌, ◌≤◌}
 use mathlib.Core.Path.{◌≡◌, refl, sym, ap, ◌∙◌}
-use mathlib.Core.List.{List, [], ◌∷◌, ◌++◌}
-use mathlib.Core.Bool.{Bool, true, false, cond, or-false}
+use mathlib.Core.List.{List, ◌∷◌}
+use mathlib.Core.Bool.{Bool, true, false}
 use native.Mathlib.Omega.{arith}
 use native.Mathlib.Nat.{add-sub_cancel_left}
 use lib.ListN.{length, get_or, drop, drop_of_length-le, length-append}
 use lib.Seq.{sets}
-use lib.Dec.{eqb}
-use borrow.Author.Tests.{eqb-true, eq-eqb, ne_eqb, lt-ltb}
-use Rattle.text.specs.declared.Verdict.TheVariants.{Flawed}
-use Rattle.text.specs.Bytes.{one_of}
+use borrow.Author.Tests.{eq-eqb, ne_eqb, lt-ltb}
 use Rattle.text.specs.Lists.{any_of, walk}
 use Rattle.text.proofs.Scans.{drop_step}
 use Rattle.text.proofs.Writes.{sets_rest}
 use Rattle.terms.specs.declared.Mode.{Mode}
-use Rattle.terms.specs.declared.Mode.TheVariants.{Out, OutGrave, In, InGrave}
-use Rattle.terms.specs.declared.Found.TheVariants as found
-use Rattle.terms.specs.Signs.{Sign, twelve, two, after, gives, at_end, signs, stands, meant, is_bare}
-use Rattle.terms.specs.Marks.{is_mark, first_bare, starts_bare}
+use Rattle.terms.specs.declared.Mode.TheVariants.{Out}
+use Rattle.terms.specs.Signs.{Sign, after, gives, at_end, signs, stands, meant}
+use Rattle.terms.specs.Marks.{is_mark}
 use Rattle.terms.specs.Terms.{Term}
 use Rattle.terms.specs.Rows.{long_flaw, end_mode, opens, opened_at, end_flaw, open_flaw, many_from, lexical_of}
 use Rattle.terms.specs.Scan.{gap_byte, term_len, found, start_at, term_at}
 use Rattle.terms.proofs.SignBytes.{pend, stands_on, stands_past, meant_length}
 use Rattle.text.proofs.AllAny.{any_over}
-use Rattle.terms.proofs.ByteCases.{gives_case, out_case, out_grave_case, in_case, in_grave_case, end_case}
+use Rattle.terms.proofs.ByteCases.{gives_case, end_case}
+use Rattle.std.proofs.Common.{Err, Some, None}
+use Rattle.text.specs.Room.{refusal_at}
+use Rattle.terms.specs.Scan.{span}
 
 -- ---- the term at a place
 
@@ -47,12 +46,12 @@ pub term_at_is : (l : List ℕ) (at start end : ℕ) → start ≡ start_at l at
 unfolding term_at
 term_at_is l at start end p q = rw (q, add-sub_cancel_left, p)
 
-pub found_term_lem : (at n : ℕ) → (n ≡ 0 → ⊥) → found at n ≡ found.Term at n
+pub found_term_lem : (at n : ℕ) → (n ≡ 0 → ⊥) → found at n ≡ Some (span at n)
 unfolding found
 found_term_lem at zero h = absurd (h refl)
 found_term_lem at (suc n) h = refl
 
-pub found_none : (at n : ℕ) → n ≡ 0 → found at n ≡ found.None
+pub found_none : (at n : ℕ) → n ≡ 0 → found at n ≡ None
 unfolding found
 found_none at n h = rw h
 
@@ -75,11 +74,11 @@ open_is l i m q h k e f =
 
 -- ---- rows 1 and 5, where the tests are
 
-pub long_line : (l : List ℕ) → 1024 < length l → lexical_of l ≡ Flawed 1 1024
+pub long_line : (l : List ℕ) → 1024 < length l → lexical_of l ≡ Err (refusal_at 1 1024)
 unfolding lexical_of long_flaw
 long_line l h = rw (lt-ltb 1024 (length l) h)
 
-pub many_ends : (k : ℕ) (t : Term) (ts : List Term) → k ≡ 64 → many_from k (t ∷ ts) ≡ Flawed 5 t.start
+pub many_ends : (k : ℕ) (t : Term) (ts : List Term) → k ≡ 64 → many_from k (t ∷ ts) ≡ Err (refusal_at 5 t.start)
 unfolding many_from
 many_ends k t ts e = rw (eq-eqb k 64 e)
 
@@ -107,107 +106,12 @@ module _ (f : Sign → Bool) where
   unfolding signs
   some_past s i m h = ap (λ (z : List ℕ). any_of f (signs m z)) (drop_of_length-le s h)
 
--- what a byte gives outside quotes, what it gives after a GRAVE that does not escape it, and what a lone last GRAVE is
-pub out_is_bare : (n b : ℕ) → (b ≡ 96 → ⊥) → any_of (is_bare n) (gives Out b) ≡ eqb b n
-unfolding any_of
-out_is_bare n b h =
-    out_case (λ g m. any_of (is_bare n) g ≡ eqb b n) b (λ p. absurd (h (eqb-true b 96 p))) (λ _ q. or-false (eqb 34 n) ∙ ap (λ (x : ℕ). eqb x n) (sym (eqb-true b 34 q)))
-    (λ _ _. or-false (eqb b n))
-
-pub grave_is_bare : (n b : ℕ) → one_of twelve b ≡ false → (96 ≡ n → ⊥) → any_of (is_bare n) (gives OutGrave b) ≡ eqb b n
-unfolding any_of gives
-grave_is_bare n b e h = simp (e, ne_eqb 96 n h) (or-false (eqb b n))
-
-pub end_is_bare : (n : ℕ) → any_of (is_bare n) (at_end OutGrave) ≡ eqb 96 n
-unfolding any_of
-end_is_bare n = or-false (eqb 96 n)
-
--- what a byte gives inside quotes is not bare, but for the quote mark that closes
-pub in_mark_bare : (n b : ℕ) → b ≡ 34 → any_of (is_bare n) (gives In b) ≡ eqb b n
-unfolding any_of gives
-in_mark_bare n b e = rw e (or-false (eqb 34 n))
-
-pub in_no_bare : (n b : ℕ) → (b ≡ 34 → ⊥) → any_of (is_bare n) (gives In b) ≡ false
-unfolding any_of
-in_no_bare n b h = in_case (λ g m. any_of (is_bare n) g ≡ false) b (λ _. refl) (λ _ q. absurd (h (eqb-true b 34 q))) (λ _ _. refl)
-
-pub in_grave_no_bare : (n b : ℕ) → any_of (is_bare n) (gives InGrave b) ≡ false
-unfolding any_of
-in_grave_no_bare n b = in_grave_case (λ g m. any_of (is_bare n) g ≡ false) b (λ _. refl) (λ _. refl)
-
--- a byte that no GRAVE takes gives a quote mark exactly where it is one
-pub out_mark : (b : ℕ) → any_of is_mark (gives Out b) ≡ eqb b 34
-unfolding any_of
-out_mark b = out_case (λ g m. any_of is_mark g ≡ eqb b 34) b (λ p. rw (eqb-true b 96 p)) (λ _ q. sym q) (λ _ q. sym q)
-
-pub in_mark : (b : ℕ) → any_of is_mark (gives In b) ≡ eqb b 34
-unfolding any_of
-in_mark b = in_case (λ g m. any_of is_mark g ≡ eqb b 34) b (λ p. rw (eqb-true b 96 p)) (λ _ q. sym q) (λ _ q. sym q)
-
-pub out_grave_no_mark : (b : ℕ) → any_of is_mark (gives OutGrave b) ≡ false
-unfolding any_of
-out_grave_no_mark b = out_grave_case (λ g m. any_of is_mark g ≡ false) b (λ _. refl) (λ _. refl)
-
-pub in_grave_no_mark : (b : ℕ) → any_of is_mark (gives InGrave b) ≡ false
-unfolding any_of
-in_grave_no_mark b = in_grave_case (λ g m. any_of is_mark g ≡ false) b (λ _. refl) (λ _. refl)
-
+-- a text's end is no quote mark
 pub end_no_mark : (m : Mode) → any_of is_mark (at_end m) ≡ false
 unfolding any_of
 end_no_mark = end_case (λ m z. any_of is_mark z ≡ false) refl refl refl refl
 
--- ---- the first sign
-
-pub starts_none : (n : ℕ) (s : List ℕ) → length s ≡ 0 → starts_bare n s ≡ false
-unfolding starts_bare signs
-starts_none n [] e = refl
-starts_none n (b ∷ s) e = absurd (omega arith)
-
-pub starts_out : (n : ℕ) (s : List ℕ) → (length s ≡ 0 → ⊥) → (get_or s 0 0 ≡ 96 → ⊥) → starts_bare n s ≡ any_of (is_bare n) (gives Out (get_or s 0 0))
-unfolding starts_bare signs gives any_of
-starts_out n [] h k = absurd (h refl)
-starts_out n (b ∷ s) h k = go (eqb b 34) (eqb b n) refl refl
-  where
-    go : (x y : Bool) → eqb b 34 ≡ x → eqb b n ≡ y → first_bare n (gives Out b ++ signs (after Out b) s) ≡ any_of (is_bare n) (gives Out b)
-    go true y p q = simp (ne_eqb b 96 k, p) (sym (or-false (eqb 34 n)))
-    go false true p q = simp (ne_eqb b 96 k, p, q)
-    go false false p q = simp (ne_eqb b 96 k, p, q)
-
-pub starts_lone : (n : ℕ) (s : List ℕ) → length s ≡ 1 → get_or s 0 0 ≡ 96 → starts_bare n s ≡ eqb 96 n
-unfolding starts_bare signs gives after
-starts_lone n [] e k = absurd (omega arith)
-starts_lone n (b ∷ []) e k = rw k
-starts_lone n (b ∷ c ∷ s) e k = absurd (omega arith)
-
-pub starts_escaped : (n : ℕ) (s : List ℕ) → 1 < length s → get_or s 0 0 ≡ 96 → one_of twelve (get_or s 1 0) ≡ true → starts_bare n s ≡ false
-unfolding starts_bare signs gives after
-starts_escaped n [] e k t = absurd (omega arith)
-starts_escaped n (b ∷ []) e k t = absurd (omega arith)
-starts_escaped n (b ∷ c ∷ s) e k t = simp (k, t)
-
-pub starts_grave : (n : ℕ) (s : List ℕ) → 1 < length s → get_or s 0 0 ≡ 96 → one_of twelve (get_or s 1 0) ≡ false → starts_bare n s ≡ eqb 96 n
-unfolding starts_bare signs gives after
-starts_grave n [] e k t = absurd (omega arith)
-starts_grave n (b ∷ []) e k t = absurd (omega arith)
-starts_grave n (b ∷ c ∷ s) e k t = simp (k, t)
-
 -- ---- the bytes that a byte stands for
-
-pub one_in : (b : ℕ) → stands (gives In b) ≡ stands (gives Out b)
-unfolding stands gives
-one_in b = in_case (λ g m. stands g ≡ stands (gives Out b)) b (λ p. simp p) (λ p q. simp (p, q)) (λ p q. simp (p, q))
-
-pub pair_out : (b : ℕ) → stands (gives OutGrave b) ≡ cond (one_of twelve b) (b ∷ []) (96 ∷ b ∷ [])
-unfolding stands
-pair_out b = out_grave_case (λ g m. stands g ≡ cond (one_of twelve b) (b ∷ []) (96 ∷ b ∷ [])) b (λ p. rw p) (λ p. rw p)
-
-pub pair_in : (b : ℕ) → stands (gives InGrave b) ≡ cond (one_of two b) (b ∷ []) (96 ∷ b ∷ [])
-unfolding stands
-pair_in b = in_grave_case (λ g m. stands g ≡ cond (one_of two b) (b ∷ []) (96 ∷ b ∷ [])) b (λ p. rw p) (λ p. rw p)
-
-pub pair_length : (x : Bool) (b : ℕ) → length (cond x (b ∷ []) (96 ∷ b ∷ [])) ≡ cond x 1 2
-pair_length true b = refl
-pair_length false b = refl
 
 -- a waiting GRAVE apart, a byte stands for at most one more
 pub stands_width : (m : Mode) (b : ℕ) → length (stands (gives m b)) + pend (after m b) ≤ pend m + 1

@@ -1,14 +1,12 @@
-use mathlib.Core.Path.{sym, ◌∙◌}
+-- `terms::all_ordinary` meets its contract.
+use Rattle.std.proofs.Common.{rules, tests, true, ◌&&◌, ◌∙◌}
+use Rattle.std.proofs.lemmas.Iterator.{YieldsList-from_slice}
+use Rattle.std.proofs.lemmas.Iterator.Consumers.{fold_from_yields_List}
 use Rattle.terms.specs.Scan.{ordinary}
-use Rattle.text.proofs.Scans.{all_kept, all_ended}
+use Rattle.terms.proofs.Chains.{all_folded}
 use Rattle.terms.proofs.all_ordinary.Goals as goal
-
-pub loop-i-preserved : goal.loop-i-preserved
-loop-i-preserved c =
-    let at = c in
-    all_kept (ordinary 34) at.args.s.now at.loop-i.i at.loop-i.all c.is_ordinary-all.result c.loop-i-test.true c.is_ordinary-all.ensures ∙ at.loop-i.invariant
 
 pub returns : goal.returns
 returns c =
-    let at = c in
-    sym (all_ended (ordinary 34) at.args.s.now at.loop-i.i at.loop-i.all c.loop-i-test.false) ∙ at.loop-i.invariant
+    let s = c.args.s.now in
+    fold_from_yields_List _ (λ t b. t && ordinary 34 b) true _ c.fold.ensures.ran (YieldsList-from_slice s cc) (λ t x b q k. search (rules, tests)) ∙ all_folded (ordinary 34) true s

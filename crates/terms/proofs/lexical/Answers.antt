@@ -3,6 +3,7 @@ use mathlib.Core.Path.{sym}
 use borrow.Author.Tests.{le-ltb, lt-ltb}
 use Rattle.terms.specs.Rows.{long_flaw, odd_flaw, lexical_of}
 use Rattle.terms.proofs.ScanLaws.{long_line}
+use Rattle.std.proofs.Common.{rules}
 use Rattle.terms.proofs.lexical.Goals as goal
 
 pub returns-then-line-gt1024 : goal.returns-then-line-gt1024
@@ -12,10 +13,10 @@ pub returns-then-clean-line : goal.returns-then-clean-line
 unfolding lexical_of long_flaw odd_flaw
 returns-then-clean-line c = rw (← c.printable_len-clean.ensures, le-ltb _ _ c.if-line-gt1024.false, lt-ltb _ _ c.if-clean-line.true)
 
-pub returns-in-Fine : goal.returns-in-Fine
+pub returns : goal.returns
 unfolding lexical_of long_flaw odd_flaw
-returns-in-Fine c = rw (← c.printable_len-clean.ensures, le-ltb _ _ c.if-line-gt1024.false, le-ltb _ _ c.if-clean-line.false, ← c.open_flaw-ended.ensures, c.in-Fine.is) c.many_flaw.ensures
+returns c = rw (← c.printable_len-clean.ensures, le-ltb _ _ c.if-line-gt1024.false, le-ltb _ _ c.if-clean-line.false, ← c.open_flaw.ensures, c.in_ok-open_flaw.was) c.many_flaw.ensures
 
-pub returns-in_default : goal.returns-in_default
+pub returns-in_err-open_flaw : goal.returns-in_err-open_flaw
 unfolding lexical_of long_flaw odd_flaw
-returns-in_default c = rw (← c.printable_len-clean.ensures, le-ltb _ _ c.if-line-gt1024.false, le-ltb _ _ c.if-clean-line.false, ← c.open_flaw-ended.ensures, c.in_default.is)
+returns-in_err-open_flaw c = rw (← c.printable_len-clean.ensures, le-ltb _ _ c.if-line-gt1024.false, le-ltb _ _ c.if-clean-line.false, ← c.open_flaw.ensures, c.in_err-open_flaw.was) (search rules)

@@ -1,5 +1,5 @@
--- `terms::many_flaw` meets its contract. A line with too few bytes or too few spaces for 65 terms is fine. The loop's invariant: the answer for the terms from here on, with k before them, is the answer.
-use Prim.Native.Nat.{◌-◌, ◌≤◌}
+-- `terms::many_flaw` meets its contract. A line with too few bytes or too few spaces for 65 terms is fine. The loop's invariant: the answer for the terms from here on, with so many before them, is the answer.
+use Prim.Native.Nat.{◌≤◌}
 use mathlib.Core.Path.{◌≡◌}
 use mathlib.Core.Bool.{true}
 use lib.ListN.{length, drop}
@@ -9,11 +9,7 @@ use Rattle.terms.specs.Terms.{terms_from}
 use Rattle.terms.specs.Rows.{many_from, many_flaw}
 use Rattle.terms.proofs.many_flaw.Given as goal
 
-abbrev pub invariant-loop-start : goal.invariant-loop-start
-invariant-loop-start l =
-    (many_from l.k (terms_from l.at true (signs Out (drop l.at l.line))) ≡ many_flaw l.line)
-    × (l.at ≤ length l.line)
-    × (l.k ≤ 64)
-
-abbrev pub decreases-loop-start : goal.decreases-loop-start
-decreases-loop-start l = length l.line - l.at
+abbrev pub invariant-turns : goal.invariant-turns
+invariant-turns l =
+    (many_from l.counter (terms_from l.from true (signs Out (drop l.from l.line))) ≡ many_flaw l.line)
+    × (l.from ≤ length l.line)

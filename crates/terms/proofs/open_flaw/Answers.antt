@@ -8,6 +8,8 @@ use Rattle.terms.specs.Rows.{end_mode, end_flaw}
 use Rattle.terms.specs.Scan.{ordinary}
 use Rattle.terms.proofs.RunLaws.{run_mode_from, run_opened_from}
 use Rattle.terms.proofs.ScanLaws.{opened_on, open_is}
+use Rattle.std.proofs.Common.{ℕ, ◌-◌, length, Err}
+use Rattle.text.specs.Room.{refusal_at}
 use Rattle.terms.proofs.open_flaw.Goals as goal
 use Rattle.terms.proofs.QuoteTests.{mode_of, mode-on, quote-on, ends-taken}
 
@@ -47,7 +49,9 @@ overflow_sub-result c =
 pub returns-then-taken : goal.returns-then-taken
 returns-then-taken c =
     let l = c.loop-i in
-    sym (ap (λ (t : Bool). end_flaw (mode_of l.inside t) l.i l.q) c.if-taken.true ∙ ends-taken l.inside l.i l.q) ∙ open_is c.args.line.now l.i (mode_of l.inside l.taken) l.q c.loop-i-test.false l.invariant.2 l.invariant.0 l.invariant.1
+    let e : length c.args.line.now ≡ l.i = omega arith in
+    ap (λ (n : ℕ). Err (refusal_at 3 (n - 1))) e
+    ∙ sym (ap (λ (t : Bool). end_flaw (mode_of l.inside t) l.i l.q) c.if-taken.true ∙ ends-taken l.inside l.i l.q) ∙ open_is c.args.line.now l.i (mode_of l.inside l.taken) l.q c.loop-i-test.false l.invariant.2 l.invariant.0 l.invariant.1
 
 pub returns-then-inside : goal.returns-then-inside
 returns-then-inside c =

@@ -1,22 +1,18 @@
-use mathlib.Core.Path.{sym, ◌∙◌}
-use native.Mathlib.Omega.{arith}
+-- `terms::ordinary_blocks` meets its contract.
+use Rattle.std.proofs.Common.{rules, tests, ◌/◌, length, not, refl, ap, ◌∙◌, arith}
+use Rattle.std.proofs.lemmas.Iterator.{YieldsList-from_slice}
+use Rattle.std.proofs.lemmas.Iterator.Search.{position_from_yields_List}
+use Rattle.text.specs.Lists.{all_of, run_len}
+use Rattle.text.proofs.Chains.{first_fails}
 use Rattle.terms.specs.Scan.{ordinary}
-use Rattle.text.proofs.Scans.{run_part}
+use Rattle.terms.proofs.RunLaws.{run_blocks}
 use Rattle.terms.proofs.ordinary_blocks.Goals as goal
 
-pub loop-i-init : goal.loop-i-init
-loop-i-init c = (omega arith, omega arith)
-
-pub returns-then-not-all_ordinary : goal.returns-then-not-all_ordinary
-returns-then-not-all_ordinary c = c.loop-i.invariant.0
-
-pub loop-i-preserved : goal.loop-i-preserved
-loop-i-preserved c =
-    let at = c in
-    let t = c.all_ordinary in
-    let e = sym t.ensures ∙ c.if-not-all_ordinary.false in
-    let r = run_part (ordinary 34) at.args.line.now at.loop-i.i 16 (omega arith) e in
-    (omega (arith, at.loop-i.invariant.0, r), omega arith)
-
 pub returns : goal.returns
-returns c = c.loop-i.invariant.0
+returns c =
+    let f = all_of (ordinary 34) in
+    let line = c.args.line.now in
+    let blocks = c.as_chunks.result.0.now in
+    let p = position_from_yields_List (λ b. not (f b)) _ _ c.position.result c.position.ensures.ran (YieldsList-from_slice blocks cc) (λ x b q k. search (rules, tests)) in
+    let n = c.unwrap_or.ensures ∙ first_fails f c.position.result _ blocks refl p ∙ ap (run_len f) c.as_chunks.ensures.front in
+    rw n (run_blocks (ordinary 34) (length line / 16) line (omega arith))

@@ -1,24 +1,14 @@
-use mathlib.Core.Path.{sym, ◌∙◌}
-use native.Mathlib.Omega.{arith}
+-- `terms::ordinary_len` meets its contract.
+use Rattle.std.proofs.Common.{rules, tests, not, refl, ◌∙◌}
+use Rattle.std.proofs.lemmas.Iterator.{YieldsList-from_slice}
+use Rattle.std.proofs.lemmas.Iterator.Search.{position_from_yields_List}
+use Rattle.text.proofs.Chains.{first_fails}
 use Rattle.terms.specs.Scan.{ordinary}
-use Rattle.text.proofs.Scans.{run_on, run_ends, run_past}
 use Rattle.terms.proofs.ordinary_len.Goals as goal
 
-pub returns-then-not-is_ordinary : goal.returns-then-not-is_ordinary
-returns-then-not-is_ordinary c =
-    let at = c in
-    let t = c.is_ordinary in
-    let e = sym t.ensures ∙ c.if-not-is_ordinary.true in
-    omega (arith, at.loop-i.invariant, run_ends (ordinary at.args.stop) at.args.s.now at.loop-i.i (omega arith) e)
-
-pub loop-i-preserved : goal.loop-i-preserved
-loop-i-preserved c =
-    let at = c in
-    let t = c.is_ordinary in
-    let e = sym t.ensures ∙ c.if-not-is_ordinary.false in
-    omega (arith, at.loop-i.invariant, run_on (ordinary at.args.stop) at.args.s.now at.loop-i.i (omega arith) e)
-
-pub returns : goal.returns
-returns c =
-    let at = c in
-    omega (arith, at.loop-i.invariant, run_past (ordinary at.args.stop) at.args.s.now at.loop-i.i (omega arith))
+pub returns-clause-run : goal.returns-clause-run
+returns-clause-run c =
+    let s = c.args.s.now in
+    let f = ordinary c.args.stop in
+    let p = position_from_yields_List (λ b. not (f b)) _ _ _ c.position.ensures.ran (YieldsList-from_slice s cc) (λ x b q k. search (rules, tests)) in
+    c.unwrap_or.ensures ∙ first_fails f c.position.result _ s refl p

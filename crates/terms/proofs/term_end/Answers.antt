@@ -1,21 +1,13 @@
 -- `terms::term_end` meets its contract: past a run of ordinary bytes the term goes on as from there.
-use native.Mathlib.Omega.{arith}
+use Rattle.std.proofs.Common.{ap, ◌∙◌, arith}
+use Rattle.text.proofs.Slices.{part_from}
 use Rattle.terms.specs.declared.Mode.TheVariants.{Out}
-use Rattle.terms.proofs.ScanLaws.{term_past}
-use Rattle.terms.proofs.RunLaws.{term_run, run_fits}
+use Rattle.terms.specs.Scan.{term_len}
+use Rattle.terms.proofs.RunLaws.{term_run}
 use Rattle.terms.proofs.term_end.Goals as goal
-
-pub returns-then-line-at : goal.returns-then-line-at
-returns-then-line-at c = let a = c.args in omega (arith, term_past Out a.line.now a.at c.if-line-at.true)
-
-pub overflow_add-at : goal.overflow_add-at
-overflow_add-at c =
-    let a = c.args in
-    let h = run_fits a.line.now a.at c.ordinary_len-n.result c.if-line-at.false c.ordinary_len-n.ensures in
-    omega arith
 
 pub returns : goal.returns
 returns c =
-    let n = c in
-    let a = n.args in
-    term_run a.line.now a.at n.ordinary_len-n.result c.term_rest.result n.ordinary_len-n.ensures c.term_rest.ensures
+    let e = c.in-Some.ensures.lookup.0.2 ∙ part_from c.args.line.now c.args.at in
+    let t = term_run c.in-Some.rest.now c.ordinary_len-n.result c.first_len.result c.ordinary_len-n.ensures.run c.first_len.ensures.term in
+    omega (arith, ap (term_len Out) e)

@@ -3,9 +3,9 @@ use mathlib.Core.Path.{sym, ap, ◌∙◌}
 use native.Mathlib.Omega.{arith}
 use lib.ListN.{length}
 use Rattle.text.proofs.Writes.{fitted_room, fitted_none, filled_none, filled_sets}
-use Rattle.text.specs.declared.Answer.TheVariants.{Wrote}
 use Rattle.terms.specs.Signs.{meant}
 use Rattle.terms.proofs.write_meant.Goals as goal
+use Rattle.std.proofs.Common.{Ok}
 
 pub returns-then-out-meant_len : goal.returns-then-out-meant_len
 returns-then-out-meant_len c =
@@ -21,7 +21,7 @@ returns c =
     let s = c.args.s.now in
     let o = c.args.out.now in
     let e = c.meant_len.ensures in
-    let p = c.put_meant-n.ensures in (
-      ap Wrote p.0 ∙ sym (fitted_room (length o) (meant s) (omega arith)),
+    let p = c.put_meant.ensures in (
+      ap Ok p.0 ∙ sym (fitted_room (length o) (meant s) (omega arith)),
       p.1 ∙ filled_sets o (meant s) (omega arith),
     )

@@ -1,9 +1,0 @@
--- `terms::one_space` meets its contract.
-use borrow.Author.Tests.{eq-eqb, ne_eqb}
-use Rattle.terms.proofs.one_space.Goals as goal
-
-pub returns-then-b-eq32 : goal.returns-then-b-eq32
-returns-then-b-eq32 c = rw (eq-eqb _ _ c.if-b-eq32.true)
-
-pub returns : goal.returns
-returns c = rw (ne_eqb _ _ c.if-b-eq32.false)
