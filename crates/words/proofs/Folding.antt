@@ -2,12 +2,13 @@
 use Prim.Native.Nat.{ℕ, ◌+◌, ◌<◌, ◌≤◌}
 use mathlib.Core.Path.{◌≡◌, refl, sym, ap, ◌∙◌}
 use mathlib.Core.List.{List, [], ◌∷◌}
-use mathlib.Core.Bool.{Bool, true}
+use mathlib.Core.Bool.{Bool, true, ◌&&◌}
 use native.Mathlib.Omega.{arith}
 use lib.ListN.{length, get_or, length-map, get_or-map}
-use lib.Dec.{leb}
+use lib.Dec.{eqb, leb}
+use Rattle.std.specs.List.{list_all, zip}
 use borrow.Author.Tests.{leb-true, leb-false, le-leb, lt-leb}
-use Rattle.text.specs.Bytes.{is_digit}
+use Rattle.text.specs.Bytes.{is_digit, same_bytes}
 use Rattle.text.specs.Lists.{is_nil, all_of}
 use Rattle.text.proofs.Tests.{and_l, and_r, either}
 use Rattle.words.specs.Words.{lower, lowered}
@@ -69,3 +70,11 @@ lowered_same = lowered_kept is_lower (λ b e. let h = leb-true 97 b (and_l (leb 
 
 pub lowered_digits : (s : List ℕ) → all_of is_digit s ≡ true → lowered s ≡ s
 lowered_digits = lowered_kept is_digit (λ b e. let h = leb-true b 57 (and_r (leb 48 b) (leb b 57) e) in lower_below b (omega arith))
+
+-- the letters of two texts of one length, two by two
+pub pairs_lowered : (s name : List ℕ) → length s ≡ length name → list_all (λ p. eqb (lower p.0) p.1) (zip s name) ≡ same_bytes (lowered s) name
+unfolding lowered same_bytes
+pairs_lowered [] [] e = refl
+pairs_lowered [] (c ∷ name) e = absurd (omega arith)
+pairs_lowered (b ∷ s) [] e = absurd (omega arith)
+pairs_lowered (b ∷ s) (c ∷ name) e = ap (λ t. eqb (lower b) c && t) (pairs_lowered s name (omega arith))

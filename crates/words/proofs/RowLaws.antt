@@ -10,18 +10,20 @@ use lib.ListN.{length, get_or, take, drop, replicate, length-append, length-repl
 use lib.Seq.{length-take-le, take-append_seam}
 use lib.Dec.{eqb}
 use borrow.Author.Tests.{eq-eqb, ne_eqb, eqb-true, eqb-false}
+use Rattle.std.proofs.lemmas.Bool.{cases_lt}
 use Rattle.text.specs.Bytes.{bytes, same_bytes}
 use Rattle.text.specs.Lists.{is_nil}
 use Rattle.text.proofs.Tests.{either, or_case, no_case}
 use Rattle.text.proofs.Scans.{get_d_within}
 use Rattle.words.specs.declared.Kind.{Kind}
 use Rattle.words.specs.declared.Kind.TheVariants.{Mere, Keep, Level, Place, Entries}
-use Rattle.words.specs.declared.Known.TheVariants.{Is, Unknown}
+use Rattle.words.specs.declared.TheConstants.{BODIES}
 use Rattle.words.specs.Tables.{known}
 use Rattle.words.specs.Words.{long_names, short_names, lower, lowered, names, find, or, verb_of, option_of, kinds, kind_of, verb_name, option_name, short_name, bodies, body_of, len_with, record_len}
-use Rattle.words.specs.Rows.{padded, verb_row, option_row, kind_number, kind_bytes, kind_at, row_name, row_names, candidate_of, body_bytes, body_at}
+use Rattle.words.specs.Rows.{padded, verb_row, option_row, kind_number, kind_bytes, kind_at, row_name, row_names, candidate_of, row_number, body_bytes, body_at}
 use Rattle.words.proofs.Folding.{lowered_length, lowered_nil, lowered_at}
 use Rattle.words.proofs.WordLaws.{verb_by_name, verb_only_name, verb_short, verb_out, option_shape, option_short, option_out, option_only_name, short_out, options_long, options_short, below, below_at}
+use Rattle.std.proofs.Common.{Some, None}
 
 -- ---- the tables
 
@@ -30,15 +32,26 @@ unfoldable pub rows_from : (ℕ → List ℕ) → ℕ → ℕ → List (List ℕ
 rows_from row k zero = []
 rows_from row k (suc m) = row k ∷ rows_from row (suc k) m
 
+rows_length : (row : ℕ → List ℕ) (k m : ℕ) → length (rows_from row k m) ≡ m
+unfolding rows_from
+rows_length row k zero = refl
+rows_length row k (suc m) = ap suc (rows_length row (suc k) m)
+
 rows_from_lem : (row : ℕ → List ℕ) (k m i : ℕ) (d : List ℕ) → i < m → get_or (rows_from row k m) i d ≡ row (k + i)
 unfolding rows_from
 rows_from_lem row k zero i d h = absurd (omega arith)
 rows_from_lem row k (suc m) zero d h = let e : k ≡ k + 0 = omega arith in ap row e
 rows_from_lem row k (suc m) (suc i) d h = let e : suc k + i ≡ k + suc i = omega arith in rows_from_lem row (suc k) m i d (omega arith) ∙ ap row e
 
--- the row at a number is the row of that number
-pub rows_at : (row : ℕ → List ℕ) (m n : ℕ) → n < m → get_or (rows_from row 0 m) n [] ≡ row n
-rows_at row m n h = let e : 0 + n ≡ n = omega arith in rows_from_lem row 0 m n [] h ∙ ap row e
+-- the row at a number is the row of that number, where those past the table have the row that stands for none
+pub rows_at : (row : ℕ → List ℕ) (m n : ℕ) (d : List ℕ) → (m ≤ n → d ≡ row n) → get_or (rows_from row 0 m) n d ≡ row n
+rows_at row m n d no_row = ⊎_elim within past (cases_lt n m)
+  where
+    past : m ≤ n → get_or (rows_from row 0 m) n d ≡ row n
+    past h = get_or-eq_default (rows_from row 0 m) d (omega (arith, rows_length row 0 m)) ∙ no_row h
+
+    within : n < m → get_or (rows_from row 0 m) n d ≡ row n
+    within h = let e : 0 + n ≡ n = omega arith in rows_from_lem row 0 m n d h ∙ ap row e
 
 -- where no verb, no option has the number, it is all zeros
 pub verb_zeros : (n : ℕ) → 13 < n → replicate 8 0 ≡ verb_row n
@@ -109,16 +122,6 @@ kind_number_lem n = ap kind_at (get_or-map kind_number kinds n Mere) ∙ again (
     again Level = refl
     again Place = refl
     again Entries = refl
-
--- a number that is no kind's stands for none
-pub kind_rest : (n : ℕ) → (n ≡ 1 → ⊥) → (n ≡ 2 → ⊥) → (n ≡ 3 → ⊥) → (n ≡ 4 → ⊥) → kind_at n ≡ Mere
-unfolding kind_at
-kind_rest zero a b c d = refl
-kind_rest (suc zero) a b c d = absurd (a refl)
-kind_rest (suc (suc zero)) a b c d = absurd (b refl)
-kind_rest (suc (suc (suc zero))) a b c d = absurd (c refl)
-kind_rest (suc (suc (suc (suc zero)))) a b c d = absurd (d refl)
-kind_rest (suc (suc (suc (suc (suc n))))) a b c d = refl
 
 -- ---- a search among the options' rows
 
@@ -237,33 +240,36 @@ candidate_most x n =
     if true h k = h
     if false h k = k
 
--- a byte that no name begins with has none
-pub candidate_rest : (x n : ℕ) → (x ≡ 97 → ⊥) → (x ≡ 100 → ⊥) → (x ≡ 101 → ⊥) → (x ≡ 120 → ⊥) → (x ≡ 102 → ⊥) → (x ≡ 104 → ⊥) → (x ≡ 107 → ⊥) → (x ≡ 108 → ⊥) → (x ≡ 111 → ⊥) → (x ≡ 115 → ⊥) → (x ≡ 118 → ⊥) → (x ≡ 119 → ⊥) → candidate_of x n ≡ 0
-unfolding candidate_of
-candidate_rest x n a b c d e f g h i j k l =
-    simp (ne_eqb x 97 a, ne_eqb x 100 b, ne_eqb x 101 c, ne_eqb x 120 d, ne_eqb x 102 e, ne_eqb x 104 f, ne_eqb x 107 g, ne_eqb x 108 h, ne_eqb x 111 i, ne_eqb x 115 j, ne_eqb x 118 k, ne_eqb x 119 l)
+-- a row that there is
+pub row_some : (m n : ℕ) → Some n ≡ row_number m → (n ≡ m) × (n ≡ 0 → ⊥)
+row_some zero n e = let z : ◌≡◌ {A = ℕ} 0 1 = cc in absurd (omega arith)
+row_some (suc k) n e = let w : n ≡ suc k = cc in (w, λ z. omega (arith, w, z))
+
+row_none : (m : ℕ) → None ≡ row_number m → m ≡ 0
+row_none zero e = refl
+row_none (suc k) e = let z : ◌≡◌ {A = ℕ} 0 1 = cc in absurd (omega arith)
 
 -- so the option that a text names is its candidate, if that row names it
 module _ (t : List ℕ) where
-  pub no_option : (o : Option ℕ) → option_of t ≡ o → ((k : ℕ) → o ≡ some k → ⊥) → Unknown ≡ known (option_of t)
+  pub no_option : (o : Option ℕ) → option_of t ≡ o → ((k : ℕ) → o ≡ some k → ⊥) → None ≡ known (option_of t)
   no_option none e h = ap known (sym e)
   no_option (some k) e h = absurd (h k refl)
 
-  pub empty_none : length t ≡ 0 → Unknown ≡ known (option_of t)
+  pub empty_none : length t ≡ 0 → None ≡ known (option_of t)
   empty_none h = no_option (option_of t) refl (λ k e. omega (arith, h, some_bytes t (option_only_name t k e).3))
 
-  pub candidate_none : candidate_of (lower (get_or t 0 0)) (length t) ≡ 0 → Unknown ≡ known (option_of t)
-  candidate_none h = no_option (option_of t) refl (λ k e. let r = candidate_is t k e in omega (arith, h, r.0, r.1))
+  pub candidate_none : None ≡ row_number (candidate_of (lower (get_or t 0 0)) (length t)) → None ≡ known (option_of t)
+  candidate_none h = no_option (option_of t) refl (λ k e. let r = candidate_is t k e in omega (arith, row_none (candidate_of (lower (get_or t 0 0)) (length t)) h, r.0, r.1))
 
   module _ (n : ℕ) (is : n ≡ candidate_of (lower (get_or t 0 0)) (length t)) where
-    pub row_hit : (n ≡ 0 → ⊥) → row_names (option_row n) t ≡ true → Is n ≡ known (option_of t)
+    pub row_hit : (n ≡ 0 → ⊥) → row_names (option_row n) t ≡ true → Some n ≡ known (option_of t)
     row_hit h e = go (option_of t) refl
       where
-        go : (o : Option ℕ) → option_of t ≡ o → Is n ≡ known (option_of t)
+        go : (o : Option ℕ) → option_of t ≡ o → Some n ≡ known (option_of t)
         go none q = absurd (named_found 12 1 n t (omega arith) (omega (arith, candidate_most (lower (get_or t 0 0)) (length t))) e (find_options t ∙ q))
         go (some k) q = ap known (ap some (is ∙ (candidate_is t k q).1) ∙ sym q)
 
-    pub row_miss : row_names (option_row n) t ≡ false → Unknown ≡ known (option_of t)
+    pub row_miss : row_names (option_row n) t ≡ false → None ≡ known (option_of t)
     row_miss e =
         no_option (option_of t) refl
         (λ k q. no_case (sym (found_named 12 1 k t (find_options t ∙ q)) ∙ ap (λ j. row_names (option_row j) t) (sym (is ∙ (candidate_is t k q).1)) ∙ e))
@@ -278,24 +284,26 @@ pub body_at_lem : (k : ℕ) → k ≤ 16 → body_at (get_or body_bytes k 0) ≡
 unfolding body_of body_bytes bodies
 body_at_lem k h = ap body_at (get_d_within body_bytes k 0 255 (omega arith)) ∙ sym (get_or-map body_at body_bytes k 255)
 
-pub body_is : (b : ℕ) → (b ≡ 255 → ⊥) → some b ≡ body_at b
-body_is b h = rw (ne_eqb b 255 h)
+-- what the table says of a kind
+pub body_listed : (k : ℕ) → get_or BODIES k None ≡ known (body_of k)
+unfolding body_of bodies
+body_listed k = get_or-map known bodies k none
 
 -- ---- whole records
 
-pub len_is : (k n : ℕ) → Is n ≡ known (body_of k) → 1 + n ≡ record_len k
+pub len_is : (k n : ℕ) → Some n ≡ known (body_of k) → 1 + n ≡ record_len k
 unfolding record_len
 len_is k n = go (body_of k)
   where
-    go : (o : Option ℕ) → Is n ≡ known o → 1 + n ≡ len_with o
+    go : (o : Option ℕ) → Some n ≡ known o → 1 + n ≡ len_with o
     go none e = cc
     go (some m) e = cc
 
-pub len_unknown : (k : ℕ) → Unknown ≡ known (body_of k) → 0 ≡ record_len k
+pub len_unknown : (k : ℕ) → None ≡ known (body_of k) → 0 ≡ record_len k
 unfolding record_len
 len_unknown k = go (body_of k)
   where
-    go : (o : Option ℕ) → Unknown ≡ known o → 0 ≡ len_with o
+    go : (o : Option ℕ) → None ≡ known o → 0 ≡ len_with o
     go none e = refl
     go (some m) e = cc
 

@@ -1,4 +1,5 @@
 pub mod Words
 pub mod Tables
 pub mod Rows
+pub mod Pens
 pub mod Names

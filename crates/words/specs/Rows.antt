@@ -1,6 +1,7 @@
 -- The constant tables: rows of fixed width, by number and made from the names, all zeros where no name has the number; and what a row says.
-use Rattle.std.specs.Prelude.{ℕ, suc, ◌-◌, List, [], ◌∷◌, ◌++◌, map, Bool, cond, length, get_or, take, drop, replicate, eqb}
+use Rattle.std.specs.Prelude.{ℕ, zero, suc, ◌-◌, List, [], ◌∷◌, ◌++◌, map, Bool, cond, length, get_or, take, drop, replicate, eqb}
 use Rattle.std.proofs.Math.Option.{Option, none, some}
+use Rattle.std.specs.Prelude as std
 use Rattle.words.specs.declared.Kind.{Kind}
 use Rattle.words.specs.declared.Kind.TheVariants.{Mere, Keep, Level, Place, Entries}
 use Rattle.words.specs.Words.{verb_name, option_name, short_name, kinds, names, bodies}
@@ -47,6 +48,11 @@ unfoldable pub candidate_of : ℕ → ℕ → ℕ
 candidate_of x n =
     cond (eqb x 97) 1 (cond (eqb x 100) (cond (eqb n 11) 2 3) (cond (eqb x 101) 4 (cond (eqb x 120) 4 (cond (eqb x 102) 5 (cond (eqb x 104) 6 (cond (eqb x 107) 7
     (cond (eqb x 108) 8 (cond (eqb x 111) 9 (cond (eqb x 115) 10 (cond (eqb x 118) 11 (cond (eqb x 119) 12 0)))))))))))
+
+-- the number of a row, of which row 0 is none
+abbrev pub row_number : ℕ → std.Option ℕ
+row_number zero = std.None
+row_number (suc k) = std.Some (suc k)
 
 -- the number of a name among names of n bytes only, the first of all being k
 unfoldable pub find_of : ℕ → ℕ → List (List ℕ) → List ℕ → Option ℕ

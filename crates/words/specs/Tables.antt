@@ -1,10 +1,9 @@
 -- What the code's answers say in the terms of specs/Words.
-use Rattle.std.specs.Prelude.{ℕ}
-use Rattle.std.proofs.Math.Option.{Option, none, some}
-use Rattle.words.specs.declared.Known.{Known}
-use Rattle.words.specs.declared.Known.TheVariants.{Is, Unknown}
+use Rattle.std.specs.Prelude.{ℕ, Option, Some, None}
+use Rattle.std.proofs.Math.Option.{none, some}
+use Rattle.std.proofs.Math.Option as math
 
 -- a number that was looked up, or none
-abbrev pub known : Option ℕ → Known
-known none = Unknown
-known (some n) = Is n
+abbrev pub known : math.Option ℕ → Option ℕ
+known none = None
+known (some n) = Some n

@@ -1,32 +1,24 @@
-use mathlib.Core.Path.{sym, ◌∙◌}
-use native.Mathlib.Omega.{arith}
-use Rattle.text.proofs.Scans.{same_length as lengths_differ, same_on, same_differs, same_past}
-use Rattle.words.specs.Words.{lowered}
-use Rattle.words.proofs.Folding.{lowered_length, lowered_at}
+-- `words::named` meets its contract.
+use Rattle.std.proofs.Common.{rules, tests, eqb, ◌∙◌, sym, length}
+use borrow.Author.Tests.{ne_eqb}
+use Rattle.std.proofs.lemmas.Iterator.{YieldsList-from_slice, YieldsList-from_zip}
+use Rattle.std.proofs.lemmas.Iterator.Consumers.{YieldsList-at}
+use Rattle.std.proofs.lemmas.Iterator.Search.{all_from_yields_List}
+use Rattle.text.proofs.Scans.{same_length as lengths_differ}
+use Rattle.words.specs.Words.{lower, lowered}
+use Rattle.words.proofs.Folding.{lowered_length, pairs_lowered}
 use Rattle.words.proofs.named.Goals as goal
 
 pub returns-then-t-name : goal.returns-then-t-name
 returns-then-t-name c =
-    let a = c.args in
-    sym (lengths_differ (lowered a.t.now) a.name.now (λ e. c.if-t-name.true (sym (lowered_length a.t.now) ∙ e)))
+    let t = c.args.t.now in
+    let n = c.args.name.now in
+    all_from_yields_List (λ p. eqb (lower p.0) p.1) c.all.new.self _ _ c.all.ensures.ran
+    (YieldsList-from_zip (YieldsList-at c.zip.ensures.first (YieldsList-from_slice t cc)) (YieldsList-from_slice n cc)) (λ x b q k. search (rules, tests))
+    ∙ pairs_lowered t n c.if-t-name.true
 
-pub returns-then-lower-name : goal.returns-then-lower-name
-returns-then-lower-name c =
-    let at = c in
-    let a = at.args in let i = at.loop-i.i in let n = lowered_length a.t.now in
-    sym (same_differs (lowered a.t.now) a.name.now i (omega arith) (omega arith)
-    (λ e. c.if-lower-name.true (c.lower.ensures ∙ sym (lowered_at a.t.now i) ∙ e)))
-    ∙ at.loop-i.invariant
-
-pub loop-i-preserved : goal.loop-i-preserved
-loop-i-preserved c =
-    let at = c in
-    let a = at.args in let i = at.loop-i.i in let n = lowered_length a.t.now in
-    sym (same_on (lowered a.t.now) a.name.now i (omega arith) (omega arith)
-    (lowered_at a.t.now i ∙ sym c.lower.ensures ∙ c.if-lower-name.false))
-    ∙ at.loop-i.invariant
-
-pub returns : goal.returns
-returns c =
-    let a = c.args in let n = lowered_length a.t.now in
-    sym (same_past (lowered a.t.now) a.name.now c.loop-i.i (omega arith) (omega arith)) ∙ c.loop-i.invariant
+pub returns-else-t-name : goal.returns-else-t-name
+returns-else-t-name c =
+    let t = c.args.t.now in
+    let n = c.args.name.now in
+    ne_eqb (length t) (length n) c.if-t-name.false ∙ sym (lengths_differ (lowered t) n (λ e. c.if-t-name.false (sym (lowered_length t) ∙ e)))

@@ -9,11 +9,11 @@ use Rattle.words.proofs.RowLaws.{option_row_name, option_row_fits}
 use Rattle.words.proofs.put_option_name.Goals as goal
 
 pub put_row-requires : goal.put_row-requires
-put_row-requires c = subst (λ (row : List ℕ). get_or row 0 0 < length row) (sym c.option_row-row.ensures) (option_row_fits c.args.n)
+put_row-requires c = subst (λ (row : List ℕ). get_or row 0 0 < length row) (sym c.option_row.ensures) (option_row_fits c.args.n)
 
 pub returns : goal.returns
 returns c =
     let a = c.args in
-    let e = ap row_name c.option_row-row.ensures ∙ option_row_name a.n in
+    let e = ap row_name c.option_row.ensures ∙ option_row_name a.n in
     let p = c.put_row.ensures in
     (p.0 ∙ ap length e, p.1 ∙ ap (sets a.out.now a.at) e)

@@ -1,12 +1,12 @@
 -- `words::record_len` meets its contract.
-use mathlib.Core.Path.{sym, ◌∙◌}
+use Prim.Native.Nat.{ℕ, ◌+◌}
+use mathlib.Core.Path.{sym, ap, ◌∙◌}
 use Rattle.words.proofs.RowLaws.{len_is, len_unknown}
 use Rattle.words.proofs.record_len.Goals as goal
 
-pub returns-in-Is : goal.returns-in-Is
-returns-in-Is c =
-    let at = c in
-    len_is at.args.kind c.in-Is.n (sym c.in-Is.is ∙ at.body_len-b.ensures)
+pub returns-in-Some : goal.returns-in-Some
+returns-in-Some c =
+    ap (λ (n : ℕ). 1 + n) c.from.ensures ∙ len_is c.args.kind c.in-Some.n (sym c.in-Some.is ∙ c.body_len.ensures)
 
-pub returns-in-Unknown : goal.returns-in-Unknown
-returns-in-Unknown c = len_unknown c.args.kind (sym c.in-Unknown.is ∙ c.body_len-b.ensures)
+pub returns-in-None : goal.returns-in-None
+returns-in-None c = len_unknown c.args.kind (sym c.in-None.is ∙ c.body_len.ensures)
