@@ -1,7 +1,7 @@
 -- The lookup's rule, proved once over all pairs: a test that computes over the whole table, and a law that gives each entry. Assumes nothing.
 use Prim.Native.Nat.{ℕ, zero, suc, ◌<◌, ◌≤◌}
 use Prim.Native.String.{String}
-use mathlib.Core.Path.{◌≡◌, refl, sym, ap}
+use mathlib.Core.Path.{◌≡◌, refl, sym, ap, ◌∙◌}
 use mathlib.Core.List.{List, [], ◌∷◌, map}
 use mathlib.Core.Bool.{Bool, true, false}
 use native.Mathlib.Omega.{arith}
@@ -64,3 +64,16 @@ no_verb verb option h = either (leb option 12) (λ t. within (leb-true option 12
     within l =
         let w = eqb-true (length (get_or rows option ([], "")).0) 13 (below_at (λ option. eqb (length (get_or rows option ([], "")).0) 13) 13 widths option (omega arith)) in
         ap had (sym (get_or-eq_default (o ∷ (get_or rows option ([], "")).0) o {n = verb} (omega arith)))
+
+-- the code's rows have a byte for no verb and one for each verb, so past the last verb they have none
+row_widths : below (λ option. eqb (length (get_or table_bytes option [])) 14) 13 ≡ true
+unfolding below table_bytes rows
+row_widths = refl
+
+pub each_verb : (verb option : ℕ) → option ≤ 12 → ltb 46 (get_or (get_or table_bytes option []) verb 0) ≡ allowed verb option
+each_verb verb option n = either (leb verb 13) (λ t. each_pair verb option (leb-true verb 13 t) n) (λ t. past (leb-false verb 13 t))
+  where
+    past : 13 < verb → ltb 46 (get_or (get_or table_bytes option []) verb 0) ≡ allowed verb option
+    past h =
+        let w = eqb-true (length (get_or table_bytes option [])) 14 (below_at (λ option. eqb (length (get_or table_bytes option [])) 14) 13 row_widths option (omega arith)) in
+        ap (ltb 46) (get_or-eq_default (get_or table_bytes option []) 0 {n = verb} (omega arith)) ∙ no_verb verb option h

@@ -4,7 +4,7 @@
 ghost use Rattle.std.specs.Prelude.{◌≡◌};
 ghost use Rattle.support.specs.Table15.{allowed};
 
-// Table 15 of DSP0214, by the options' and the verbs' numbers; 0 is none's. `X` shall, `2` should, `1` may, `.` shall not be supported.
+// Table 15 of DSP0214, by the options' and the verbs' numbers; 0 is none's. `X` shall, `2` should, `1` may, `.` shall not be supported. Rows of bytes show it as it is printed.
 const TABLE: [[u8; 14]; 13] = [
     *b"..............",
     *b"..........X...", // all
@@ -25,11 +25,8 @@ const TABLE: [[u8; 14]; 13] = [
 pub fn allows(verb: u8, option: u8) -> bool
     ensures { result ≡ allowed verb option }
 {
-    if 13 < verb {
+    let Some(row) = TABLE.get(usize::from(option)) else {
         return false;
-    }
-    if 12 < option {
-        return false;
-    }
-    b'.' < TABLE[option as usize][verb as usize]
+    };
+    row.get(usize::from(verb)).is_some_and(|cell| b'.' < *cell)
 }
