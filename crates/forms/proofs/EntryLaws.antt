@@ -1,12 +1,12 @@
 -- The items of display and output, and those of a list, one by one, by their bytes. Assumes nothing.
-use Prim.Native.Nat.{ℕ, suc, ◌+◌, ◌-◌, ◌<◌, ◌≤◌}
+use Prim.Native.Nat.{ℕ, suc, ◌+◌, ◌-◌, ◌<◌, ◌≤◌, min}
 use mathlib.Core.Path.{◌≡◌, refl, sym, ap, ◌∙◌}
 use mathlib.Core.List.{List, [], ◌∷◌, ◌++◌, map}
 use mathlib.Core.Bool.{Bool, true, false, cond, not, ◌&&◌, and-false, and-true}
 use mathlib.Core.Option.{Option, none, some}
 use native.Mathlib.Omega.{arith}
-use lib.ListN.{length, get_or, take, drop, length-take, length-drop, drop_of_length-le}
-use lib.Seq.{take-take, drop-drop}
+use lib.ListN.{length, get_or, take, drop, length-take, drop_of_length-le}
+use lib.Seq.{take-take}
 use lib.Dec.{eqb}
 use borrow.Author.Tests.{eqb-true, eqb-false, ne_eqb}
 use Rattle.text.specs.Lists.{onto, is_nil, given, every}
@@ -18,9 +18,8 @@ use Rattle.terms.specs.declared.Mode.TheVariants.{Out, OutGrave, In, InGrave}
 use Rattle.terms.specs.Signs.{Sign, is_bare, after, gives, at_end, signs}
 use Rattle.forms.specs.Forms.{entry_of, entry_parts, entries_of}
 use Rattle.forms.specs.Automata.{is_comma, opened, entry_len}
-use Rattle.forms.specs.Answers.{is_some}
+use Rattle.forms.specs.Answers.{is_some, are_entries_in}
 use Rattle.forms.specs.Steps.{bare_at, is_entry_in}
-use Rattle.forms.proofs.Lists.{taken_step}
 use Rattle.forms.proofs.TextLaws.{no_comma, no_open, no_close}
 use Rattle.forms.proofs.PropertyLaws.{taken_part}
 use Rattle.terms.proofs.ByteCases.{gives_case, end_case}
@@ -134,21 +133,21 @@ module _ (u : List ℕ) (k : ℕ) (e : k ≡ entry_len Out false u) where
       ap (λ z. is_some (every (map entry_of z))) (parts_rest u k e h)
       ∙ some_every (entry_of (signs Out (take k u))) (map entry_of (entry_parts false (signs Out (drop (k + 1) u))))
 
--- ---- a scan for the end of an item; the text is the first n bytes of s
+-- ---- a scan for the end of an item
 
-module _ (s : List ℕ) (n i : ℕ) (m : Mode) (l : Bool) where
-  pub entry_on : (m' : Mode) (l' : Bool) → i < length (take n s) → is_comma m l (get_or s i 0) ≡ false → l' ≡ opened m l (get_or s i 0) → m' ≡ after m (get_or s i 0)
-      → entry_len m l (drop i (take n s)) ≡ suc (entry_len m' l' (drop (i + 1) (take n s)))
+module _ (t : List ℕ) (i : ℕ) (m : Mode) (l : Bool) where
+  pub entry_on : (m' : Mode) (l' : Bool) → i < length t → is_comma m l (get_or t i 0) ≡ false → l' ≡ opened m l (get_or t i 0) → m' ≡ after m (get_or t i 0)
+      → entry_len m l (drop i t) ≡ suc (entry_len m' l' (drop (i + 1) t))
   unfolding entry_len
-  entry_on m' l' h c e f = ap (entry_len m l) (taken_step s n i h) ∙ rw (c, e, f)
+  entry_on m' l' h c e f = ap (entry_len m l) (drop_step t i h) ∙ rw (c, e, f)
 
-  pub entry_ends : i < length (take n s) → is_comma m l (get_or s i 0) ≡ true → entry_len m l (drop i (take n s)) ≡ 0
+  pub entry_ends : i < length t → is_comma m l (get_or t i 0) ≡ true → entry_len m l (drop i t) ≡ 0
   unfolding entry_len
-  entry_ends h c = ap (entry_len m l) (taken_step s n i h) ∙ rw c
+  entry_ends h c = ap (entry_len m l) (drop_step t i h) ∙ rw c
 
-  pub entry_past : length (take n s) ≤ i → entry_len m l (drop i (take n s)) ≡ 0
+  pub entry_past : length t ≤ i → entry_len m l (drop i t) ≡ 0
   unfolding entry_len
-  entry_past h = ap (entry_len m l) (drop_of_length-le (take n s) h)
+  entry_past h = ap (entry_len m l) (drop_of_length-le t h)
 
 pub comma_listed : (m : Mode) (b : ℕ) → false ≡ is_comma m true b
 comma_listed Out b = refl
@@ -168,54 +167,46 @@ opened_by OutGrave l b = refl
 opened_by In l b = refl
 opened_by InGrave l b = refl
 
--- ---- the loop over the items: the part from a place on, cut to the text's end, is the text from there on
+-- ---- the loop over the items: the first of them has k bytes, and r says whether it is of its form
 
-module _ (s : List ℕ) (n e at : ℕ) (z : e ≡ length (take n s)) where
-  pub part_left : take (e - at) (take (length s - at) (drop at s)) ≡ drop at (take n s)
-  part_left = ap (take (e - at)) (part_from s at) ∙ sym (drop_take at e s) ∙ ap (drop at) (taken_part s n e z)
+module _ (s : List ℕ) (n k : ℕ) (h : n ≤ length s) (w : k ≡ entry_len Out false (take n s)) where
+  pub entry_end : k ≤ n
+  entry_end = let l = length-take n s in let q = entry_within Out false (take n s) in omega arith
 
-  -- the first k bytes of that part, within the text
-  pub part_front : (k : ℕ) → k ≤ length (drop at (take n s)) → take k (take (length s - at) (drop at s)) ≡ take k (drop at (take n s))
-  part_front k h =
-      let d = length-drop at (take n s) in
-      let l = length-take n s in
-      ap (take k) (part_from s at) ∙ sym (take-take k (n - at) (drop at s) (omega arith)) ∙ ap (take k) (sym (drop_take at n s))
+  module _ (r : Bool) (j : r ≡ is_entry_in s k) where
+    one : r ≡ is_some (entry_of (signs Out (take k (take n s))))
+    unfolding is_entry_in
+    one = j ∙ ap (λ (q : List ℕ). is_some (entry_of (signs Out q))) (sym (take-take k n s entry_end))
 
-  module _ (k : ℕ) (w : k ≡ entry_len Out false (take (e - at) (take (length s - at) (drop at s)))) where
-    first : k ≡ entry_len Out false (drop at (take n s))
-    first = w ∙ ap (entry_len Out false) part_left
+    pub entries_last : k ≡ n → r ≡ are_entries_in s n
+    unfolding are_entries_in
+    entries_last e = let l = length-take n s in one ∙ sym (entries_one (take n s) k w (omega arith))
 
-    short : k ≤ length (drop at (take n s))
-    short = let q = entry_within Out false (drop at (take n s)) in omega (arith, first)
+    more : (k ≡ n → ⊥) → are_entries_in s n ≡ r && are_entries_in (drop (k + 1) s) (n - (k + 1))
+    unfolding are_entries_in
+    more f =
+        let l = length-take n s in
+        let e = entry_end in
+        entries_more (take n s) k w (omega (arith, f))
+        ∙ ap (λ (q : List ℕ). is_some (entry_of (signs Out (take k (take n s)))) && is_some (entries_of (signs Out q))) (drop_take (k + 1) n s)
+        ∙ ap (λ (q : Bool). q && is_some (entries_of (signs Out (take (n - (k + 1)) (drop (k + 1) s))))) (sym one)
 
-    pub entry_end : at ≤ e → at + k ≤ e
-    entry_end h = let d = length-drop at (take n s) in omega (arith, short)
+    pub entries_next : (k ≡ n → ⊥) → r ≡ true → are_entries_in (take (length s - (k + 1)) (drop (k + 1) s)) (n - (k + 1)) ≡ are_entries_in s n
+    entries_next f t = ap (λ (q : List ℕ). are_entries_in q (n - (k + 1))) (part_from s (k + 1)) ∙ sym (more f ∙ rw t)
 
-    module _ (r : Bool) (j : r ≡ is_entry_in (take (length s - at) (drop at s)) k) where
-      one : r ≡ is_some (entry_of (signs Out (take k (drop at (take n s)))))
-      unfolding is_entry_in
-      one = j ∙ ap (λ (q : List ℕ). is_some (entry_of (signs Out q))) (part_front k short)
+    pub entries_bad : r ≡ false → are_entries_in s n ≡ false
+    entries_bad t = go (eqb k n) refl
+      where
+        go : (x : Bool) → eqb k n ≡ x → are_entries_in s n ≡ false
+        go true p = sym (entries_last (eqb-true k n p)) ∙ t
+        go false p = more (eqb-false k n p) ∙ rw t
 
-      pub entries_last : at + k ≡ e → r ≡ is_some (entries_of (signs Out (drop at (take n s))))
-      entries_last h =
-          let d = length-drop at (take n s) in
-          one ∙ sym (entries_one (drop at (take n s)) k first (omega arith))
+-- what stands past a text's end is no part of it
+pub entries_within : (s : List ℕ) (n e : ℕ) → e ≡ min n (length s) → are_entries_in s e ≡ are_entries_in s n
+unfolding are_entries_in
+entries_within s n e z = ap (λ (q : List ℕ). is_some (entries_of (signs Out q))) (taken_part s n e (z ∙ sym (length-take n s)))
 
-      more : at ≤ e → (at + k ≡ e → ⊥) → is_some (entries_of (signs Out (drop at (take n s)))) ≡ r && is_some (entries_of (signs Out (drop (at + k + 1) (take n s))))
-      more h f =
-          let d = length-drop at (take n s) in
-          let b : k < length (drop at (take n s)) = let q = entry_end h in omega (arith, f) in
-          let a : at + (k + 1) ≡ at + k + 1 = omega arith in
-          entries_more (drop at (take n s)) k first b
-          ∙ ap (λ (q : List ℕ). is_some (entry_of (signs Out (take k (drop at (take n s))))) && is_some (entries_of (signs Out q))) (drop-drop (k + 1) at (take n s) ∙ ap (λ (i : ℕ). drop i (take n s)) a)
-          ∙ ap (λ (q : Bool). q && is_some (entries_of (signs Out (drop (at + k + 1) (take n s))))) (sym one)
+-- what the scan for the end of an item, and the loop over the items, rest on
+pub ruleset entry_scan = (entry_on, entry_ends, entry_past)
 
-      pub entries_next : at ≤ e → (at + k ≡ e → ⊥) → r ≡ true → is_some (entries_of (signs Out (drop (at + k + 1) (take n s)))) ≡ is_some (entries_of (signs Out (drop at (take n s))))
-      entries_next h f t = sym (more h f ∙ rw t)
-
-      pub entries_bad : at ≤ e → r ≡ false → is_some (entries_of (signs Out (drop at (take n s)))) ≡ false
-      entries_bad h t = go (eqb (at + k) e) refl
-        where
-          go : (x : Bool) → eqb (at + k) e ≡ x → is_some (entries_of (signs Out (drop at (take n s)))) ≡ false
-          go true p = sym (entries_last (eqb-true (at + k) e p)) ∙ t
-          go false p = more h (eqb-false (at + k) e p) ∙ rw t
+pub ruleset entry_loop = (entry_end, entries_last, entries_next, entries_bad, entries_within)

@@ -4,12 +4,12 @@ use mathlib.Core.Path.{◌≡◌, refl, sym, ap, ◌∙◌}
 use mathlib.Core.List.{List, [], ◌∷◌}
 use mathlib.Core.Bool.{Bool, true, false, cond, not}
 use native.Mathlib.Omega.{arith}
-use lib.ListN.{length, get_or, take, drop, drop_of_length-le, length-take, length-drop}
+use lib.ListN.{length, get_or, take, drop, length-take, length-drop}
 use lib.Seq.{get_or-take}
 use lib.Dec.{eqb}
 use borrow.Author.Tests.{eq-eqb, ne_eqb, not-false}
 use Rattle.text.specs.Lists.{any_of, up_to, run_len, is_nil}
-use Rattle.text.proofs.Scans.{step_of_lem, drop_step, run_within, run_fails}
+use Rattle.text.proofs.Scans.{drop_step, run_within, run_fails}
 
 module _ {A : Type 0} (f : A → Bool) where
   -- it is the front of its list
@@ -48,33 +48,10 @@ module _ {A : Type 0} (f : A → Bool) where
   pub up_next : (s : List A) (d : A) → length (up_to f s) < length s → f (get_or s (length (up_to f s)) d) ≡ true
   up_next s d h = not-false (f (get_or s (length (up_to f s)) d)) (ap (λ (i : ℕ). not (f (get_or s i d))) (up_run s) ∙ run_fails (λ x. not (f x)) s d (omega (arith, up_run s)))
 
--- a scan for it: it goes on, it ends, it is past the list
-module _ {A : Type 0} (f : A → Bool) (l : List A) (i : ℕ) (d : A) where
-  pub up_on : i < length l → f (get_or l i d) ≡ false → length (up_to f (drop i l)) ≡ suc (length (up_to f (drop (i + 1) l)))
-  unfolding up_to
-  up_on h e = rw (step_of_lem l i d h, e)
-
-  pub up_ends : i < length l → f (get_or l i d) ≡ true → length (up_to f (drop i l)) ≡ 0
-  unfolding up_to
-  up_ends h e = rw (step_of_lem l i d h, e)
-
-module _ {A : Type 0} (f : A → Bool) (l : List A) (i : ℕ) where
-  pub up_past : length l ≤ i → length (up_to f (drop i l)) ≡ 0
-  unfolding up_to
-  up_past h = rw (drop_of_length-le l h)
-
--- an empty list has its default everywhere
-pub empty_at : (l : List ℕ) → length l ≡ 0 → get_or l 0 0 ≡ 0
-empty_at [] h = refl
-empty_at (x ∷ l) h = absurd (omega arith)
-
 -- the first n of a list, from a place on
 pub taken_step : (s : List ℕ) (n i : ℕ) → i < length (take n s) → drop i (take n s) ≡ get_or s i 0 ∷ drop (i + 1) (take n s)
 taken_step s n i h =
     drop_step (take n s) i h ∙ ap (λ (b : ℕ). b ∷ drop (i + 1) (take n s)) (get_or-take n s i 0 (let l = length-take n s in omega arith))
-
-pub taken_within : (s : List ℕ) (n i : ℕ) → i < length (take n s) → i < length s
-taken_within s n i h = let l = length-take n s in omega arith
 
 -- nothing is left of a list after its last
 pub last_one : (t : List ℕ) (i : ℕ) → i < length t → is_nil (drop (i + 1) t) ≡ eqb (i + 1) (length t)

@@ -7,9 +7,9 @@ use mathlib.Core.Option.{Option, none, some}
 use native.Mathlib.Omega.{arith}
 use native.Mathlib.Numerals.{add-one}
 use lib.ListN.{length, get_or, take, drop, length-take, drop_of_length-le}
-use lib.Seq.{take_all, split_at, length-take-le, get_or-take}
+use lib.Seq.{take_all, split_at, length-take-le, take-length}
 use lib.Dec.{eqb, leb, ltb}
-use borrow.Author.Tests.{eqb-true, eq-eqb, ne_eqb, le-leb, lt-leb, leb-true, leb-false, lt-ltb, le-ltb, ltb-true, eqb-false}
+use borrow.Author.Tests.{eqb-true, eq-eqb, ne_eqb, le-leb, lt-leb, leb-true, leb-false, lt-ltb, ltb-true, eqb-false}
 use Rattle.text.specs.Bytes.{is_letter, is_word}
 use Rattle.text.specs.Lists.{all_of, any_of, up_to, run_len, given}
 use Rattle.text.proofs.Tests.{and_l, and_r, no_case}
@@ -21,12 +21,12 @@ use Rattle.terms.specs.Signs.{Sign, bare, is_bare, signs, raws, bares}
 use Rattle.terms.proofs.SignBytes.{raws_signs, raws_append}
 use Rattle.terms.proofs.Bares.{bare_signs, bares_signs, raws_bares, none_bares, bares_alone}
 use Rattle.terms.proofs.ByteCases.{out_case, grave_first}
-use Rattle.forms.specs.declared.Shape.TheVariants as shape
 use Rattle.forms.specs.Forms.{starts, is_name, has_eq, Value, value_of, Said, alone, equals, matches, said_of, property, property_of, topic_of, entry, entry_of}
-use Rattle.forms.specs.Answers.{is_some, operator_of, shape_of, property_in, topic_in, is_value_in}
+use Rattle.forms.specs.Answers.{is_some, operator_of, shape_of, property_in, topic_in, is_value_in, shape}
 use Rattle.forms.specs.Steps.{name_len, equal_at, shape_if, is_entry_in}
-use Rattle.forms.proofs.ValueLaws.{starts_byte, value_part, first_taken}
+use Rattle.forms.proofs.ValueLaws.{starts_byte, value_part}
 use Rattle.forms.proofs.FormCases.{named_of, as_property, as_entry}
+use Rattle.std.proofs.Common.{Some, None}
 
 -- ---- names
 
@@ -293,14 +293,14 @@ said_one t v e = rw (no_start (leb (length t) v) refl)
 shape_value : (make : Value → Said) (p : ℕ) → ((v : Value) → operator_of (make v) ≡ p) → (o : Option Value) (m : List ℕ) (k : ℕ) → length m ≡ k
     → shape_if (is_some o) k p ≡ shape_of (given (given o (λ w. some (make w))) (λ s. some (property m s)))
 shape_value make p op none m k e = refl
-shape_value make p op (some v) m k e = sym (ap (λ (j : ℕ). shape.Is j (operator_of (make v))) e ∙ ap (shape.Is k) (op v))
+shape_value make p op (some v) m k e = sym (ap (λ (j : ℕ). Some (shape j (operator_of (make v)))) e ∙ ap (λ (j : ℕ). Some (shape k j)) (op v))
 
 entry_value : (o : Option Value) (m : List ℕ) → is_some o ≡ is_some (given o (λ w. some (entry m (some w))))
 entry_value none m = refl
 entry_value (some v) m = refl
 
 module _ (s : List ℕ) (n k : ℕ) (e : k ≡ name_len (take n s)) where
-  pub property_unnamed : k ≡ 0 → shape.No ≡ property_in s n
+  pub property_unnamed : k ≡ 0 → None ≡ property_in s n
   unfolding property_in
   property_unnamed h = sym (ap shape_of (unnamed_property (take n s) (sym e ∙ h)))
 
@@ -312,9 +312,9 @@ module _ (s : List ℕ) (n k : ℕ) (e : k ≡ name_len (take n s)) where
     name_length : length (take k (take n s)) ≡ k
     name_length = length-take-le k (take n s) (named (take n s) k e h).within
 
-    pub property_mere : k ≡ length (take n s) → shape.Is k 0 ≡ property_in s n
+    pub property_mere : k ≡ length (take n s) → Some (shape k 0) ≡ property_in s n
     unfolding property_in
-    property_mere z = sym (ap shape_of (mere_property (take n s) k (named (take n s) k e h) z) ∙ ap (λ (j : ℕ). shape.Is j 0) name_length)
+    property_mere z = sym (ap shape_of (mere_property (take n s) k (named (take n s) k e h) z) ∙ ap (λ (j : ℕ). Some (shape j 0)) name_length)
 
     pub entry_mere : k ≡ length (take n s) → true ≡ is_entry_in s n
     unfolding is_entry_in
@@ -324,7 +324,7 @@ module _ (s : List ℕ) (n k : ℕ) (e : k ≡ name_len (take n s)) where
       before : k < length (take n s)
       before = let w = (named (take n s) k e h).within in omega (arith, l)
 
-      pub property_not : equal_at (take n s) k ≡ false → shape.No ≡ property_in s n
+      pub property_not : equal_at (take n s) k ≡ false → None ≡ property_in s n
       unfolding property_in
       property_not q = sym (ap shape_of (other_property (take n s) k (named (take n s) k e h) before (equal_not (take n s) k before q)))
 
@@ -366,35 +366,12 @@ module _ (s : List ℕ) (n k : ℕ) (e : k ≡ name_len (take n s)) where
 
 -- ---- topics
 
-pub topic_name : (t : List ℕ) → is_name t ≡ true → shape.Is (length t) 0 ≡ topic_in t
+pub topic_by : (t : List ℕ) (b : Bool) → b ≡ is_name t → shape_if b (length t) 0 ≡ topic_in t
 unfolding topic_in topic_of
-topic_name t e = sym (rw (raws_signs t, e))
-
-pub topic_none : (t : List ℕ) → is_name t ≡ false → shape.No ≡ topic_in t
-unfolding topic_in topic_of
-topic_none t e = sym (rw (raws_signs t, e))
+topic_by t true e = sym (rw (raws_signs t, sym e))
+topic_by t false e = sym (rw (raws_signs t, sym e))
 
 -- the length of a name at the front of a part, step by step
-module _ (s : List ℕ) (n : ℕ) where
-  pub name_empty : length (take n s) ≡ 0 → 0 ≡ name_len (take n s)
-  name_empty h = go (take n s) h
-    where
-      go : (t : List ℕ) → length t ≡ 0 → 0 ≡ name_len t
-      go [] e = unfold name_len run_len in refl
-      go (b ∷ t) e = absurd (omega arith)
-
-  pub name_first : (length (take n s) ≡ 0 → ⊥) → is_letter (get_or s 0 0) ≡ false → 0 ≡ name_len (take n s)
-  unfolding name_len
-  name_first h e = sym (rw (ap (λ (b : ℕ). is_letter b) (first_taken s n h) ∙ e))
-
-  pub name_long : (length (take n s) ≡ 0 → ⊥) → is_letter (get_or s 0 0) ≡ true → (k : ℕ) → k ≡ run_len is_word (take n s) → 64 < k → 0 ≡ name_len (take n s)
-  unfolding name_len
-  name_long h e k r l = sym (rw (ap (λ (b : ℕ). is_letter b) (first_taken s n h) ∙ e, ← r, lt-leb k 64 l))
-
-  pub name_run : (length (take n s) ≡ 0 → ⊥) → is_letter (get_or s 0 0) ≡ true → (k : ℕ) → k ≡ run_len is_word (take n s) → k ≤ 64 → k ≡ name_len (take n s)
-  unfolding name_len
-  name_run h e k r l = sym (rw (ap (λ (b : ℕ). is_letter b) (first_taken s n h) ∙ e, ← r, le-leb k 64 l))
-
 -- the part that is the text
 pub taken_part : (s : List ℕ) (n e : ℕ) → e ≡ length (take n s) → take e s ≡ take n s
 taken_part s n e h = go (leb n (length s)) refl
@@ -411,11 +388,7 @@ unfolding is_name
 name_nil [] h = refl
 name_nil (b ∷ t) h = absurd (omega arith)
 
--- `=` at a place within the text, and past it
-pub equal_within : (s : List ℕ) (n v : ℕ) → v < length (take n s) → eqb (get_or s v 0) 61 ≡ equal_at (take n s) v
-equal_within s n v h =
-    let l = length-take n s in
-    sym (rw (lt-ltb v (length (take n s)) h, get_or-take n s v 0 (omega arith)))
+-- a whole name, and an item of display or output, as the code takes them
+pub ruleset whole_name = (name_nil, name_is, take-length)
 
-pub equal_past : (s : List ℕ) (n v : ℕ) → length (take n s) ≤ v → false ≡ equal_at (take n s) v
-equal_past s n v h = sym (rw (le-ltb v (length (take n s)) h))
+pub ruleset one_entry = (entry_unnamed, entry_mere, entry_not, entry_one, value_within)

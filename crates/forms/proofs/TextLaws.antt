@@ -12,6 +12,7 @@ use Rattle.text.specs.Bytes.{bytes, one_of}
 use Rattle.text.specs.Lists.{all_of, any_of, up_to, past, onto, parts, is_nil}
 use Rattle.text.proofs.Tests.{no_case}
 use Rattle.text.proofs.Parts.{parts_some}
+use Rattle.text.proofs.Scans.{drop_step}
 use Rattle.terms.specs.declared.Mode.{Mode}
 use Rattle.terms.specs.declared.Mode.TheVariants.{Out, OutGrave, In, InGrave}
 use Rattle.terms.specs.Signs.{Sign, bare, escaped, quote, quoted, quoted_escaped, is_bare, twelve, after, gives, at_end, signs}
@@ -90,9 +91,18 @@ module _ (s : List ℕ) (n i : ℕ) (m : Mode) (q : At) where
       let b = get_or s i 0 in
       sym (ap (λ z. text_from q (signs m z)) (taken_step s n i h) ∙ over q (gives m b) (signs (after m b) (drop (i + 1) (take n s))) ∙ rw (e, f))
 
-  pub text_past : length (take n s) ≤ i → text_from q (signs m (drop i (take n s))) ≡ text_end q m
+-- a text byte by byte: it goes on, it is past its end
+module _ (t : List ℕ) (i : ℕ) (m : Mode) (q : At) where
+  pub text_next : (m' : Mode) (q' : At) → i < length t → q' ≡ text_over q (gives m (get_or t i 0)) → m' ≡ after m (get_or t i 0)
+      → text_from q' (signs m' (drop (i + 1) t)) ≡ text_from q (signs m (drop i t))
+  unfolding signs
+  text_next m' q' h e f =
+      let b = get_or t i 0 in
+      sym (ap (λ z. text_from q (signs m z)) (drop_step t i h) ∙ over q (gives m b) (signs (after m b) (drop (i + 1) t)) ∙ rw (e, f))
+
+  pub text_past : length t ≤ i → text_from q (signs m (drop i t)) ≡ text_end q m
   unfolding signs text_end
-  text_past h = ap (λ z. text_from q (signs m z)) (drop_of_length-le (take n s) h)
+  text_past h = ap (λ z. text_from q (signs m z)) (drop_of_length-le t h)
 
 -- ---- lists
 
@@ -240,24 +250,23 @@ list_close q k OutGrave b r e = no_case (sym e)
 list_close q k In b r e = no_case (sym e)
 list_close q k InGrave b r e = no_case (sym e)
 
-module _ (s : List ℕ) (n i : ℕ) (m : Mode) (q : At) (k : ℕ) where
-  pub list_on : (m' : Mode) (q' : At) (k' : ℕ) → i < length (take n s) → bare_at 41 m (get_or s i 0) ≡ false
-      → q' ≡ list_step q m (get_or s i 0) → k' ≡ items_after k m (get_or s i 0) → m' ≡ after m (get_or s i 0)
-      → list_from q' k' (signs m' (drop (i + 1) (take n s))) ≡ list_from q k (signs m (drop i (take n s)))
+module _ (t : List ℕ) (i : ℕ) (m : Mode) (q : At) (k : ℕ) where
+  pub list_on : (m' : Mode) (q' : At) (k' : ℕ) → i < length t → bare_at 41 m (get_or t i 0) ≡ false
+      → q' ≡ list_step q m (get_or t i 0) → k' ≡ items_after k m (get_or t i 0) → m' ≡ after m (get_or t i 0)
+      → list_from q' k' (signs m' (drop (i + 1) t)) ≡ list_from q k (signs m (drop i t))
   unfolding signs
   list_on m' q' k' h c e f g =
-      let b = get_or s i 0 in
-      sym (ap (λ z. list_from q k (signs m z)) (taken_step s n i h) ∙ list_over q k m b (signs (after m b) (drop (i + 1) (take n s))) c ∙ rw (e, f, g))
+      let b = get_or t i 0 in
+      sym (ap (λ z. list_from q k (signs m z)) (drop_step t i h) ∙ list_over q k m b (signs (after m b) (drop (i + 1) t)) c ∙ rw (e, f, g))
 
-  pub list_closes : i < length (take n s) → bare_at 41 m (get_or s i 0) ≡ true
-      → whole q && (leb (suc k) 16 && eqb (i + 1) (length (take n s))) ≡ list_from q k (signs m (drop i (take n s)))
+  pub list_closes : i < length t → bare_at 41 m (get_or t i 0) ≡ true → whole q && (leb (suc k) 16 && eqb (i + 1) (length t)) ≡ list_from q k (signs m (drop i t))
   list_closes h c =
-      sym (ap (λ z. list_from q k (signs m z)) (taken_step s n i h) ∙ list_close q k m (get_or s i 0) (drop (i + 1) (take n s)) c
-      ∙ ap (λ z. whole q && (leb (suc k) 16 && z)) (last_one (take n s) i h))
+      sym (ap (λ z. list_from q k (signs m z)) (drop_step t i h) ∙ list_close q k m (get_or t i 0) (drop (i + 1) t) c
+      ∙ ap (λ z. whole q && (leb (suc k) 16 && z)) (last_one t i h))
 
-  pub list_past : length (take n s) ≤ i → list_from q k (signs m (drop i (take n s))) ≡ false
+  pub list_past : length t ≤ i → list_from q k (signs m (drop i t)) ≡ false
   unfolding signs
-  list_past h = ap (λ z. list_from q k (signs m z)) (drop_of_length-le (take n s) h) ∙ list_end q k m
+  list_past h = ap (λ z. list_from q k (signs m z)) (drop_of_length-le t h) ∙ list_end q k m
 
 -- one item more at the most
 pub items_grow : (k : ℕ) (m : Mode) (b : ℕ) → items_after k m b ≤ k + 1
@@ -267,3 +276,8 @@ items_grow k m b = go (bare_at 44 m b)
     go : (t : Bool) → cond t (k + 1) k ≤ k + 1
     go true = omega arith
     go false = omega arith
+
+-- what a pass over a text, and one over a list, rest on
+pub ruleset text_pass = (text_from_lem, text_next, text_past)
+
+pub ruleset list_pass = (list_from_lem, list_on, list_closes, list_past, items_grow)

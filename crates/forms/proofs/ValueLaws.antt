@@ -1,5 +1,5 @@
 -- A value by its first byte. Assumes nothing.
-use Prim.Native.Nat.{ℕ, zero, suc, ◌-◌}
+use Prim.Native.Nat.{ℕ, ◌-◌}
 use mathlib.Core.Path.{◌≡◌, refl, sym, ap, ◌∙◌}
 use mathlib.Core.List.{List, [], ◌∷◌, ◌++◌, map}
 use mathlib.Core.Bool.{Bool, true, false, cond}
@@ -46,13 +46,6 @@ value_list (b ∷ t) h =
     ap (λ z. is_some (value_of (signs Out (z ∷ t)))) h ∙ ap (λ z. is_some (value_of z)) (bare_signs 40 t refl refl)
     ∙ some_if (is_list (signs Out t)) (many (map stands (items_in (signs Out t))))
 
--- what stands first in the first n of a list
-pub first_taken : (s : List ℕ) (n : ℕ) → (length (take n s) ≡ 0 → ⊥) → get_or (take n s) 0 0 ≡ get_or s 0 0
-first_taken [] zero h = absurd (h refl)
-first_taken [] (suc n) h = absurd (h refl)
-first_taken (b ∷ s) zero h = absurd (h refl)
-first_taken (b ∷ s) (suc n) h = refl
-
 module _ (s : List ℕ) (n : ℕ) where
   pub empty_value : length (take n s) ≡ 0 → false ≡ is_value_in s n
   unfolding is_value_in
@@ -62,19 +55,22 @@ module _ (s : List ℕ) (n : ℕ) where
       go [] e = unfold value_of text_of is_text signs in refl
       go (b ∷ t) e = absurd (omega arith)
 
-  pub text_value : (length (take n s) ≡ 0 → ⊥) → (get_or s 0 0 ≡ 40 → ⊥) → is_text (signs Out (take n s)) ≡ is_value_in s n
+  pub text_value : (get_or (take n s) 0 0 ≡ 40 → ⊥) → is_text (signs Out (take n s)) ≡ is_value_in s n
   unfolding is_value_in
-  text_value h k = sym (value_text_lem (take n s) (λ z. k (sym (first_taken s n h) ∙ z)))
+  text_value h = sym (value_text_lem (take n s) h)
 
   -- the list's reader gets the part after the parenthesis
-  pub list_value : (length (take n s) ≡ 0 → ⊥) → get_or s 0 0 ≡ 40 → is_list (signs Out (take (n - 1) (take (length s - 1) (drop 1 s)))) ≡ is_value_in s n
+  pub list_value : get_or (take n s) 0 0 ≡ 40 → is_list (signs Out (take (n - 1) (take (length s - 1) (drop 1 s)))) ≡ is_value_in s n
   unfolding is_value_in
-  list_value h k =
+  list_value h =
       ap (λ (t : List ℕ). is_list (signs Out (take (n - 1) t))) (part_from s 1) ∙ ap (λ (t : List ℕ). is_list (signs Out t)) (sym (drop_take 1 n s))
-      ∙ sym (value_list (take n s) (first_taken s n h ∙ k))
+      ∙ sym (value_list (take n s) h)
 
 -- the value that stands v bytes into a text, by the part of the line where it begins
 pub value_part : (s : List ℕ) (n v : ℕ) → is_value_in (take (length s - v) (drop v s)) (n - v) ≡ is_some (value_of (signs Out (drop v (take n s))))
 unfolding is_value_in
 value_part s n v =
     ap (λ (t : List ℕ). is_some (value_of (signs Out (take (n - v) t)))) (part_from s v) ∙ ap (λ (t : List ℕ). is_some (value_of (signs Out t))) (sym (drop_take v n s))
+
+-- a value by its first byte, as the code takes it
+pub ruleset first_byte = (empty_value, text_value, list_value)

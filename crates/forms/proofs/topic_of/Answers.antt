@@ -1,10 +1,7 @@
 -- `forms::topic_of` meets its contract. Assumes nothing.
-use mathlib.Core.Path.{sym, ◌∙◌}
-use Rattle.forms.proofs.PropertyLaws.{topic_name, topic_none}
+use mathlib.Core.Path.{◌∙◌}
+use Rattle.forms.proofs.PropertyLaws.{topic_by}
 use Rattle.forms.proofs.topic_of.Goals as goal
 
-pub returns-then-is_name : goal.returns-then-is_name
-returns-then-is_name c = topic_name c.args.t.now (sym c.is_name.ensures ∙ c.if-is_name.true)
-
 pub returns : goal.returns
-returns c = topic_none c.args.t.now (sym c.is_name.ensures ∙ c.if-is_name.false)
+returns c = c.shape_if.ensures ∙ topic_by c.args.t.now c.is_name.result c.is_name.ensures

@@ -1,7 +1,0 @@
--- `forms::on_escaped` meets its contract. Assumes nothing.
-use Rattle.forms.specs.Forms.{is_plain_sign}
-use Rattle.forms.proofs.on_escaped.Goals as goal
-
-pub returns-in-Plain : goal.returns-in-Plain
-unfolding is_plain_sign
-returns-in-Plain c = rw c.in-Plain.is
