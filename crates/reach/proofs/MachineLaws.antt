@@ -31,6 +31,9 @@ module _ {S : Type 0} (step : S → ℕ → S) (off : S → Bool) (q : S) (l : L
   unfolding reach_by
   reach_past h = rw (drop_of_length-le l h)
 
+-- what the walk rests on
+pub ruleset walk_pass = (reach_on, reach_ends, reach_past)
+
 -- it takes no more bytes than there are
 pub reach_within : {S : Type 0} (step : S → ℕ → S) (off : S → Bool) (q : S) (s : List ℕ) → reach_by step off q s ≤ length s
 unfolding reach_by

@@ -8,7 +8,6 @@ use native.Mathlib.Omega.{arith}
 use borrow.Author.Tests.{eqb-true, leb-true, ltb-true, ltb-false, leb-false, le-leb, lt-leb, ne_eqb}
 use lib.ListN.{length, take, drop}
 use lib.Dec.{eqb, leb, ltb}
-use Rattle.text.specs.declared.Number.TheVariants as number
 use Rattle.text.specs.Bytes.{bytes, same_bytes, is_letter, is_digit}
 use Rattle.text.specs.Lists.{all_of, any_of, up_to, past, parts, run_len, is_nil}
 use Rattle.text.specs.Decimal.{value_from, is_decimal}
@@ -32,6 +31,7 @@ use Rattle.reach.specs.Machine.{reach_by}
 use Rattle.reach.specs.Numbers.{digit_more}
 use Rattle.reach.specs.Roads.{start_step, part_step, numbered_or, tag_end, tag_step, number_step, road_step, is_off_road}
 use Rattle.reach.proofs.Far.{Far, far_by}
+use Rattle.std.proofs.Common.{Some, None}
 
 -- ---- what may follow
 
@@ -297,7 +297,7 @@ module _ (k b : ℕ) (h : k < 16) where
       w : ℕ
       w = v * 10 + (b - 48)
 
-      go : (t : Bool) → is_digit b && leb w 65535 ≡ t → Next (segment_after g k) b (numbered_or k other (cond t (number.Is w) number.No))
+      go : (t : Bool) → is_digit b && leb w 65535 ≡ t → Next (segment_after g k) b (numbered_or k other (cond t (Some w) None))
       go true e =
           let d = and_l (is_digit b) (leb w 65535) e in
           record {

@@ -1,15 +1,13 @@
 -- The machine for the arguments of keep and level, as the code has it. proofs/Longest has it that it goes as far as the paper says.
-use Rattle.std.specs.Prelude.{ℕ, ◌+◌, ◌-◌, ◌*◌, Bool, true, false, cond, ◌&&◌, get_or, eqb, leb, ltb}
-use Rattle.text.specs.declared.Number.{Number}
-use Rattle.text.specs.declared.Number.TheVariants as number
+use Rattle.std.specs.Prelude.{ℕ, ◌+◌, ◌-◌, ◌*◌, Bool, true, false, cond, ◌&&◌, get_or, eqb, leb, ltb, Option, Some, None}
 use Rattle.text.specs.Bytes.{is_digit}
 use Rattle.words.specs.Words.{lower, all_name}
 use Rattle.reach.specs.declared.Tally.{Tally}
 use Rattle.reach.specs.declared.Tally.TheVariants as tally
 
 -- one digit after digits of the value v, up to a limit
-unfoldable pub digit_more : ℕ → ℕ → ℕ → Number
-digit_more most v b = cond (is_digit b && leb (v * 10 + (b - 48)) most) (number.Is (v * 10 + (b - 48))) number.No
+unfoldable pub digit_more : ℕ → ℕ → ℕ → Option ℕ
+digit_more most v b = cond (is_digit b && leb (v * 10 + (b - 48)) most) (Some (v * 10 + (b - 48))) None
 
 -- the letter of `all` after the first n, in either case
 unfoldable pub is_all_letter : ℕ → ℕ → Bool
@@ -18,9 +16,9 @@ is_all_letter n b = ltb n 3 && eqb (lower b) (get_or all_name n 0)
 unfoldable pub all_step : ℕ → ℕ → Tally
 all_step n b = cond (is_all_letter n b) (tally.All (n + 1)) tally.Off
 
-abbrev pub number_or : Tally → Number → Tally
-number_or other (number.Is v) = tally.Number v
-number_or other number.No = other
+abbrev pub number_or : Tally → Option ℕ → Tally
+number_or other (Some v) = tally.Number v
+number_or other None = other
 
 -- a level may be `all`
 unfoldable pub first_step : Bool → ℕ → Tally

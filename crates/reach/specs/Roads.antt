@@ -1,7 +1,5 @@
 -- The machine for targets, as the code has it: k segments came before. proofs/Longest has it that it goes as far as the paper says.
-use Rattle.std.specs.Prelude.{ℕ, ◌+◌, Bool, true, false, cond, ◌&&◌, eqb, ltb}
-use Rattle.text.specs.declared.Number.{Number}
-use Rattle.text.specs.declared.Number.TheVariants as number
+use Rattle.std.specs.Prelude.{ℕ, ◌+◌, Bool, true, false, cond, ◌&&◌, eqb, ltb, Option, Some, None}
 use Rattle.text.specs.Bytes.{is_letter}
 use Rattle.forms.specs.Targets.{is_separator}
 use Rattle.reach.specs.declared.Road.{Road}
@@ -16,9 +14,9 @@ start_step k b = cond (eqb b 46) (road.Dot k) (cond (is_letter b) (road.Tag k 1)
 unfoldable pub part_step : ℕ → ℕ → Road
 part_step k b = cond (is_separator b && ltb k 15) (road.Start (k + 1)) road.Off
 
-abbrev pub numbered_or : ℕ → Road → Number → Road
-numbered_or k other (number.Is v) = road.Number k v
-numbered_or k other number.No = other
+abbrev pub numbered_or : ℕ → Road → Option ℕ → Road
+numbered_or k other (Some v) = road.Number k v
+numbered_or k other None = other
 
 -- after a tag: `*`, or the first digit of its number
 unfoldable pub tag_end : ℕ → ℕ → Road

@@ -2,18 +2,18 @@
 // three machines: for numbers, for targets, and for the forms that have names and values.
 #![tactic(auto)]
 
-ghost use Rattle.std.specs.Prelude.{◌≡◌, true, ◌&&◌, ◌-◌, ◌*◌, ◌+◌};
+ghost use Rattle.std.specs.Prelude.{◌≡◌, ℕ, Bool, true, ◌&&◌, ◌-◌, ◌*◌, ◌+◌};
 ghost use Rattle.text.specs.Bytes.{is_digit};
 ghost use Rattle.terms.specs.declared.Mode.TheVariants.{Out};
 ghost use Rattle.reach.specs.Machine.{reach_by};
 ghost use Rattle.reach.specs.Numbers.{digit_more, is_all_letter, all_step, first_step, tally_step, is_off_tally};
 ghost use Rattle.reach.specs.Roads.{start_step, part_step, tag_end, tag_step, number_step, road_step, is_off_road};
-ghost use Rattle.reach.specs.Stages.{is_alive, is_name_byte, name_step, comma_step, said_step, value_step, free_step, text_on, in_text, items_on, items_next, in_items, stage_step, is_off_stage, stage_reach};
+ghost use Rattle.reach.specs.Stages.{is_alive, is_name_byte, name_step, comma_step, said_step, value_step, free_step, text_on, in_text, items_on, items_next, in_items, stage_and_mode, is_off_at, stage_reach};
 ghost use Rattle.reach.specs.Reach.{reach_of};
 
 use forms::{At, at_step, is_bare, is_separator, is_whole};
 use terms::{Mode, step};
-use text::{Number, is_digit, is_letter, is_word};
+use text::{is_digit, is_letter, is_word};
 use words::lower;
 
 // The forms of a term's text: the arguments of keep, level, source and destination, display and output; a target; a property; a help topic.
@@ -28,9 +28,42 @@ pub enum Form {
     Topic,
 }
 
+// ---- a machine, and how far it goes
+
+// A machine reads a text byte by byte, from state to state, until it is off: no text of its form goes on so.
+trait Machine {
+    type State: Copy;
+
+    ghost next: { Self → Self.State → ℕ → Self.State };
+
+    ghost off: { Self.State → Bool };
+
+    fn step(&self, q: Self::State, b: u8) -> Self::State
+        ensures { result ≡ next self.now q b };
+
+    fn is_off(q: Self::State) -> bool
+        ensures { result ≡ off q };
+}
+
+// How many bytes of a text a machine takes, from a state on, before it is off.
+#[tactic(auto, using(crate::proofs::MachineLaws::walk_pass))]
+fn reach_from<M: Machine>(machine: &M, first: M::State, t: &[u8]) -> usize
+    ensures { result ≡ reach_by (M.next machine.now) M.off first t.now }
+{
+    let mut q = first;
+    for (i, b) in t.iter().enumerate() {
+        q = machine.step(q, *b);
+        if M::is_off(q) {
+            return i;
+        }
+    }
+    t.len()
+}
+
 // ---- numbers, and `all`
 
 // Where a pass over a number stands: before it, after a leading zero, after digits of this value; after this many letters of `all`; past what can stay.
+// `Off` is a state here, in Road and in Stage, and no Option around them: the machines of specs/ step from it as from any other.
 #[derive(Clone, Copy)]
 pub enum Tally {
     First,
@@ -45,38 +78,33 @@ fn more(v: u32, b: u8) -> u64
     requires { is_digit b ≡ true }
     ensures { result ≡ v * 10 + (b - 48) }
 {
-    (v as u64) * 10 + ((b - b'0') as u64)
+    u64::from(v) * 10 + u64::from(b - b'0')
 }
 
 // The same where the byte is a digit and the value at most `most`.
-fn digit_more(v: u32, b: u8, most: u32) -> Number
+fn digit_more(v: u32, b: u8, most: u32) -> Option<u64>
     ensures { result ≡ digit_more most v b }
 {
     if !is_digit(b) {
-        return Number::No;
+        return None;
     }
     let w = more(v, b);
-    let limit = most as u64;
+    let limit = u64::from(most);
     if limit < w {
-        return Number::No;
+        return None;
     }
-    Number::Is(w)
+    Some(w)
 }
 
 // Is it the letter of `all` after the first n, in either case?
+#[tactic(auto, unfolding(crate::specs::Numbers::is_all_letter, words::specs::Words::all_name, text::specs::Bytes::bytes))]
 fn is_all_letter(n: usize, b: u8) -> bool
     ensures { result ≡ is_all_letter n b }
 {
-    let c = lower(b);
-    if n == 0 {
-        return c == b'a';
-    }
-    if n < 3 {
-        return c == b'l';
-    }
-    false
+    n < 3 && lower(b) == b"all"[n]
 }
 
+#[tactic(auto, unfolding(crate::specs::Numbers::all_step, crate::specs::Numbers::is_all_letter))]
 fn all_step(n: usize, b: u8) -> Tally
     ensures { result ≡ all_step n b }
 {
@@ -93,10 +121,9 @@ fn first_step(level: bool, b: u8) -> Tally
     if b == b'0' {
         return Tally::Zero;
     }
-    let d = digit_more(0, b, 4294967295);
-    match d {
-        Number::Is(w) => Tally::Number(w as u32),
-        Number::No => {
+    match digit_more(0, b, 4294967295) {
+        Some(w) => Tally::Number(w as u32),
+        None => {
             if level {
                 return all_step(0, b);
             }
@@ -112,10 +139,9 @@ fn tally_step(level: bool, q: Tally, b: u8) -> Tally
         Tally::First => first_step(level, b),
         Tally::Zero => Tally::Off,
         Tally::Number(v) => {
-            let d = digit_more(v, b, 4294967295);
-            match d {
-                Number::Is(w) => Tally::Number(w as u32),
-                Number::No => Tally::Off,
+            match digit_more(v, b, 4294967295) {
+                Some(w) => Tally::Number(w as u32),
+                None => Tally::Off,
             }
         }
         Tally::All(n) => all_step(n, b),
@@ -123,31 +149,26 @@ fn tally_step(level: bool, q: Tally, b: u8) -> Tally
     }
 }
 
-fn is_off_tally(q: Tally) -> bool
-    ensures { result ≡ is_off_tally q }
-{
-    match q {
-        Tally::First => false,
-        Tally::Zero => false,
-        Tally::Number(_) => false,
-        Tally::All(_) => false,
-        Tally::Off => true,
-    }
+// The machine for the arguments of keep and level; a level may be `all`.
+#[derive(Clone, Copy)]
+struct TallyMachine {
+    level: bool,
 }
 
-fn reach_tally(t: &[u8], level: bool) -> usize
-    ensures { result ≡ reach_by (tally_step level) is_off_tally Tally.First t.now }
-{
-    let mut q = Tally::First;
-    let mut i: usize = 0;
-    while i < t.len() {
-        q = tally_step(level, q, t[i]);
-        if is_off_tally(q) {
-            return i;
-        }
-        i += 1;
+impl Machine for TallyMachine {
+    type State = Tally;
+
+    ghost next = { λ machine. tally_step machine.level };
+
+    ghost off = { is_off_tally };
+
+    fn step(&self, q: Tally, b: u8) -> Tally {
+        tally_step(self.level, q, b)
     }
-    i
+
+    fn is_off(q: Tally) -> bool {
+        matches!(q, Tally::Off)
+    }
 }
 
 // ---- targets
@@ -167,6 +188,7 @@ pub enum Road {
 }
 
 // The first byte of a segment.
+#[tactic(auto, unfolding(crate::specs::Roads::start_step))]
 fn start_step(k: usize, b: u8) -> Road
     ensures { result ≡ start_step k b }
 {
@@ -183,13 +205,11 @@ fn start_step(k: usize, b: u8) -> Road
 }
 
 // After a whole segment: a separator, where another segment may follow.
+#[tactic(auto, unfolding(crate::specs::Roads::part_step))]
 fn part_step(k: usize, b: u8) -> Road
     ensures { result ≡ part_step k b }
 {
-    if !is_separator(b) {
-        return Road::Off;
-    }
-    if k < 15 {
+    if is_separator(b) && k < 15 {
         return Road::Start(k + 1);
     }
     Road::Off
@@ -205,16 +225,16 @@ fn tag_end(k: usize, b: u8) -> Road
     if b == b'0' {
         return Road::Off;
     }
-    let d = digit_more(0, b, 65535);
-    match d {
-        Number::Is(w) => Road::Number {
+    match digit_more(0, b, 65535) {
+        Some(w) => Road::Number {
             segment: k,
             value: w as u32,
         },
-        Number::No => Road::Off,
+        None => Road::Off,
     }
 }
 
+#[tactic(auto, unfolding(crate::specs::Roads::tag_step))]
 fn tag_step(k: usize, n: usize, b: u8) -> Road
     ensures { result ≡ tag_step k n b }
 {
@@ -233,75 +253,51 @@ fn tag_step(k: usize, n: usize, b: u8) -> Road
 fn number_step(k: usize, v: u32, b: u8) -> Road
     ensures { result ≡ number_step k v b }
 {
-    let d = digit_more(v, b, 65535);
-    match d {
-        Number::Is(w) => Road::Number {
+    match digit_more(v, b, 65535) {
+        Some(w) => Road::Number {
             segment: k,
             value: w as u32,
         },
-        Number::No => part_step(k, b),
+        None => part_step(k, b),
     }
 }
 
-fn road_step(q: Road, b: u8) -> Road
-    ensures { result ≡ road_step q b }
-{
-    match q {
-        Road::Lead => {
-            if is_separator(b) {
-                return Road::Start(0);
+// The machine for targets.
+#[derive(Clone, Copy)]
+struct RoadMachine;
+
+impl Machine for RoadMachine {
+    type State = Road;
+
+    ghost next = { λ machine. road_step };
+
+    ghost off = { is_off_road };
+
+    fn step(&self, q: Road, b: u8) -> Road {
+        match q {
+            Road::Lead => {
+                if is_separator(b) {
+                    return Road::Start(0);
+                }
+                start_step(0, b)
             }
-            start_step(0, b)
-        }
-        Road::Start(k) => start_step(k, b),
-        Road::Dot(k) => {
-            if b == b'.' {
-                return Road::Dots(k);
+            Road::Start(k) => start_step(k, b),
+            Road::Dot(k) => {
+                if b == b'.' {
+                    return Road::Dots(k);
+                }
+                part_step(k, b)
             }
-            part_step(k, b)
+            Road::Dots(k) => part_step(k, b),
+            Road::Tag { segment, letters } => tag_step(segment, letters, b),
+            Road::Number { segment, value } => number_step(segment, value, b),
+            Road::Star | Road::Off => Road::Off,
         }
-        Road::Dots(k) => part_step(k, b),
-        Road::Tag { segment, letters } => tag_step(segment, letters, b),
-        Road::Number { segment, value } => number_step(segment, value, b),
-        Road::Star => Road::Off,
-        Road::Off => Road::Off,
     }
-}
 
-fn is_off_road(q: Road) -> bool
-    ensures { result ≡ is_off_road q }
-{
-    match q {
-        Road::Lead => false,
-        Road::Start(_) => false,
-        Road::Dot(_) => false,
-        Road::Dots(_) => false,
-        Road::Tag {
-            segment: _,
-            letters: _,
-        } => false,
-        Road::Number {
-            segment: _,
-            value: _,
-        } => false,
-        Road::Star => false,
-        Road::Off => true,
+    fn is_off(q: Road) -> bool {
+        matches!(q, Road::Off)
     }
-}
-
-fn reach_road(t: &[u8]) -> usize
-    ensures { result ≡ reach_by road_step is_off_road Road.Lead t.now }
-{
-    let mut q = Road::Lead;
-    let mut i: usize = 0;
-    while i < t.len() {
-        q = road_step(q, t[i]);
-        if is_off_road(q) {
-            return i;
-        }
-        i += 1;
-    }
-    i
 }
 
 // ---- places, names, and what follows a name
@@ -325,19 +321,13 @@ fn is_alive(q: At, m: Mode) -> bool
     ensures { result ≡ is_alive q m }
 {
     match q {
-        At::Start => true,
-        At::Plain => true,
-        At::Inside => true,
-        At::Ended => match m {
-            Mode::Out => true,
-            Mode::OutGrave => false,
-            Mode::In => false,
-            Mode::InGrave => false,
-        },
+        At::Start | At::Plain | At::Inside => true,
+        At::Ended => matches!(m, Mode::Out),
         At::Dead => false,
     }
 }
 
+#[tactic(auto, unfolding(crate::specs::Stages::free_step))]
 fn free_step(m: Mode, b: u8) -> Stage
     ensures { result ≡ free_step m b }
 {
@@ -348,6 +338,7 @@ fn free_step(m: Mode, b: u8) -> Stage
 }
 
 // A bare comma, and what may follow it.
+#[tactic(auto, unfolding(crate::specs::Stages::comma_step))]
 fn comma_step(b: u8, comma: Stage) -> Stage
     ensures { result ≡ comma_step comma b }
 {
@@ -358,18 +349,17 @@ fn comma_step(b: u8, comma: Stage) -> Stage
 }
 
 // May a name of k bytes go on with this one?
+#[tactic(auto, unfolding(crate::specs::Stages::is_name_byte))]
 fn is_name_byte(k: usize, b: u8) -> bool
     ensures { result ≡ is_name_byte k b }
 {
     if k == 0 {
         return is_letter(b);
     }
-    if k < 64 {
-        return is_word(b);
-    }
-    false
+    k < 64 && is_word(b)
 }
 
+#[tactic(auto, unfolding(crate::specs::Stages::name_step, crate::specs::Stages::is_name_byte))]
 fn name_step(k: usize, b: u8, equal: Stage, comma: Stage) -> Stage
     ensures { result ≡ name_step equal comma k b }
 {
@@ -385,18 +375,20 @@ fn name_step(k: usize, b: u8, equal: Stage, comma: Stage) -> Stage
     comma_step(b, comma)
 }
 
+// This and `items_on` differ in the stage alone: over one function that gives an `Option<At>`, a property's value took 74 instructions a byte in place of 51.
+#[tactic(auto, unfolding(crate::specs::Stages::text_on))]
 fn text_on(q: At, m: Mode, b: u8) -> Stage
     ensures { result ≡ text_on q m b }
 {
     let p = at_step(q, m, b);
-    let n = step(m, b);
-    if is_alive(p, n) {
+    if is_alive(p, step(m, b)) {
         return Stage::Text(p);
     }
     Stage::Off
 }
 
 // A list where it begins with `(`, otherwise quoted or plain.
+#[tactic(auto, unfolding(crate::specs::Stages::value_step))]
 fn value_step(b: u8) -> Stage
     ensures { result ≡ value_step b }
 {
@@ -409,6 +401,7 @@ fn value_step(b: u8) -> Stage
     text_on(At::Start, Mode::Out, b)
 }
 
+#[tactic(auto, unfolding(crate::specs::Stages::said_step))]
 fn said_step(b: u8) -> Stage
     ensures { result ≡ said_step b }
 {
@@ -418,6 +411,7 @@ fn said_step(b: u8) -> Stage
     value_step(b)
 }
 
+#[tactic(auto, unfolding(crate::specs::Stages::in_text))]
 fn in_text(q: At, m: Mode, b: u8, comma: Stage) -> Stage
     ensures { result ≡ in_text comma q m b }
 {
@@ -431,13 +425,11 @@ fn in_text(q: At, m: Mode, b: u8, comma: Stage) -> Stage
 }
 
 // A comma in a list, after k items and the one that it ends: another item may follow up to the sixteenth.
+#[tactic(auto, unfolding(crate::specs::Stages::items_next))]
 fn items_next(q: At, k: usize) -> Stage
     ensures { result ≡ items_next q k }
 {
-    if !is_whole(q) {
-        return Stage::Off;
-    }
-    if k < 15 {
+    if is_whole(q) && k < 15 {
         return Stage::Items {
             at: At::Start,
             before: k + 1,
@@ -446,17 +438,18 @@ fn items_next(q: At, k: usize) -> Stage
     Stage::Off
 }
 
+#[tactic(auto, unfolding(crate::specs::Stages::items_on))]
 fn items_on(q: At, k: usize, m: Mode, b: u8) -> Stage
     ensures { result ≡ items_on q k m b }
 {
     let p = at_step(q, m, b);
-    let n = step(m, b);
-    if is_alive(p, n) {
+    if is_alive(p, step(m, b)) {
         return Stage::Items { at: p, before: k };
     }
     Stage::Off
 }
 
+#[tactic(auto, unfolding(crate::specs::Stages::in_items))]
 fn in_items(q: At, k: usize, m: Mode, b: u8) -> Stage
     ensures { result ≡ in_items q k m b }
 {
@@ -472,67 +465,60 @@ fn in_items(q: At, k: usize, m: Mode, b: u8) -> Stage
     items_on(q, k, m, b)
 }
 
-fn stage_step(q: Stage, m: Mode, b: u8, equal: Stage, comma: Stage) -> Stage
-    ensures { result ≡ stage_step equal comma q m b }
-{
-    match q {
-        Stage::Free => free_step(m, b),
-        Stage::Name(k) => name_step(k, b, equal, comma),
-        Stage::Said => said_step(b),
-        Stage::Value => value_step(b),
-        Stage::Text(at) => in_text(at, m, b, comma),
-        Stage::Items { at, before } => in_items(at, before, m, b),
-        Stage::Closed => comma_step(b, comma),
-        Stage::Off => Stage::Off,
+// The machine for the other forms: `equal` and `comma` say what follows a name's `=` and a bare comma. It carries the mode of what was read.
+#[derive(Clone, Copy)]
+struct StageMachine {
+    equal: Stage,
+    comma: Stage,
+}
+
+impl Machine for StageMachine {
+    type State = (Stage, Mode);
+
+    ghost next = { λ machine. stage_and_mode machine.equal machine.comma };
+
+    ghost off = { is_off_at };
+
+    fn step(&self, q: (Stage, Mode), b: u8) -> (Stage, Mode) {
+        let (stage, m) = q;
+        let next = match stage {
+            Stage::Free => free_step(m, b),
+            Stage::Name(k) => name_step(k, b, self.equal, self.comma),
+            Stage::Said => said_step(b),
+            Stage::Value => value_step(b),
+            Stage::Text(at) => in_text(at, m, b, self.comma),
+            Stage::Items { at, before } => in_items(at, before, m, b),
+            Stage::Closed => comma_step(b, self.comma),
+            Stage::Off => Stage::Off,
+        };
+        (next, step(m, b))
+    }
+
+    fn is_off(q: (Stage, Mode)) -> bool {
+        matches!(q.0, Stage::Off)
     }
 }
 
-fn is_off_stage(q: Stage) -> bool
-    ensures { result ≡ is_off_stage q }
-{
-    match q {
-        Stage::Free => false,
-        Stage::Name(_) => false,
-        Stage::Said => false,
-        Stage::Value => false,
-        Stage::Text(_) => false,
-        Stage::Items { at: _, before: _ } => false,
-        Stage::Closed => false,
-        Stage::Off => true,
-    }
-}
-
-// `equal` and `comma` say what follows a name's `=` and a bare comma.
+// How far such a text goes from a stage on.
 fn reach_stage(t: &[u8], first: Stage, equal: Stage, comma: Stage) -> usize
     ensures { result ≡ stage_reach equal comma first Out t.now }
 {
-    let mut q = first;
-    let mut m = Mode::Out;
-    let mut i: usize = 0;
-    while i < t.len() {
-        let b = t[i];
-        q = stage_step(q, m, b, equal, comma);
-        if is_off_stage(q) {
-            return i;
-        }
-        m = step(m, b);
-        i += 1;
-    }
-    i
+    reach_from(&StageMachine { equal, comma }, (first, Mode::Out), t)
 }
 
 // ---- every form
 
 // How many bytes the longest beginning of a text has that is also a beginning of some text of a form.
+#[tactic(auto, unfolding(crate::specs::Reach::reach_of))]
 pub fn reach(t: &[u8], form: Form) -> usize
     ensures { result ≡ reach_of form t.now }
 {
     match form {
-        Form::Keep => reach_tally(t, false),
-        Form::Level => reach_tally(t, true),
+        Form::Keep => reach_from(&TallyMachine { level: false }, Tally::First, t),
+        Form::Level => reach_from(&TallyMachine { level: true }, Tally::First, t),
         Form::Place => reach_stage(t, Stage::Free, Stage::Off, Stage::Off),
         Form::Entries => reach_stage(t, Stage::Name(0), Stage::Value, Stage::Name(0)),
-        Form::Target => reach_road(t),
+        Form::Target => reach_from(&RoadMachine, Road::Lead, t),
         Form::Property => reach_stage(t, Stage::Name(0), Stage::Said, Stage::Off),
         Form::Topic => reach_stage(t, Stage::Name(0), Stage::Off, Stage::Off),
     }

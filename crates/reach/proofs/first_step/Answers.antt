@@ -9,13 +9,13 @@ pub returns-then-b-eq48 : goal.returns-then-b-eq48
 returns-then-b-eq48 c = search (first_zero, rules)
 
 pub overflow_cast-result : goal.overflow_cast-result
-overflow_cast-result c = omega (arith, digit_small _ _ _ _ (sym c.in-Is.is ∙ c.digit_more-d.ensures))
+overflow_cast-result c = omega (arith, digit_small _ _ _ _ (sym c.in-Some.is ∙ c.digit_more.ensures))
 
 pub returns-then-level : goal.returns-then-level
 returns-then-level c = search (first_all, rules)
 
-pub returns-in-Is : goal.returns-in-Is
-returns-in-Is c = search (first_number, rules)
+pub returns-in-Some : goal.returns-in-Some
+returns-in-Some c = search (first_number, rules)
 
 pub returns-else-level : goal.returns-else-level
 returns-else-level c = search (first_off, rules)

@@ -6,10 +6,10 @@ use borrow.Author.Rules.{rules}
 use Rattle.reach.proofs.number_step.Goals as goal
 
 pub overflow_cast-result : goal.overflow_cast-result
-overflow_cast-result c = omega (arith, digit_small _ _ _ _ (sym c.in-Is.is ∙ c.digit_more-d.ensures))
+overflow_cast-result c = omega (arith, digit_small _ _ _ _ (sym c.in-Some.is ∙ c.digit_more.ensures))
 
-pub returns-in-Is : goal.returns-in-Is
-returns-in-Is c = search (number_more, rules)
+pub returns-in-Some : goal.returns-in-Some
+returns-in-Some c = search (number_more, rules)
 
-pub returns-in-No : goal.returns-in-No
-returns-in-No c = search (number_ends, rules)
+pub returns-in-None : goal.returns-in-None
+returns-in-None c = search (number_ends, rules)

@@ -12,10 +12,10 @@ pub returns-then-b-eq48 : goal.returns-then-b-eq48
 returns-then-b-eq48 c = search (tag_zero, rules)
 
 pub overflow_cast-result : goal.overflow_cast-result
-overflow_cast-result c = omega (arith, digit_small _ _ _ _ (sym c.in-Is.is ∙ c.digit_more-d.ensures))
+overflow_cast-result c = omega (arith, digit_small _ _ _ _ (sym c.in-Some.is ∙ c.digit_more.ensures))
 
-pub returns-in-Is : goal.returns-in-Is
-returns-in-Is c = search (tag_number, rules)
+pub returns-in-Some : goal.returns-in-Some
+returns-in-Some c = search (tag_number, rules)
 
-pub returns-in-No : goal.returns-in-No
-returns-in-No c = search (tag_off, rules)
+pub returns-in-None : goal.returns-in-None
+returns-in-None c = search (tag_off, rules)

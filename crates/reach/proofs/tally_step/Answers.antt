@@ -6,16 +6,16 @@ use borrow.Author.Rules.{rules}
 use Rattle.reach.proofs.tally_step.Goals as goal
 
 pub overflow_cast-result : goal.overflow_cast-result
-overflow_cast-result c = omega (arith, digit_small _ _ _ _ (sym c.in-Is.is ∙ c.digit_more-d.ensures))
+overflow_cast-result c = omega (arith, digit_small _ _ _ _ (sym c.in-Some.is ∙ c.digit_more.ensures))
 
 pub returns-in-First : goal.returns-in-First
 returns-in-First c = search (tally_first, rules)
 
-pub returns-in-Is : goal.returns-in-Is
-returns-in-Is c = search (tally_number, rules)
+pub returns-in-Some : goal.returns-in-Some
+returns-in-Some c = search (tally_number, rules)
 
-pub returns-in-No : goal.returns-in-No
-returns-in-No c = search (tally_over, rules)
+pub returns-in-None : goal.returns-in-None
+returns-in-None c = search (tally_over, rules)
 
 pub returns-in-All : goal.returns-in-All
 returns-in-All c = search (tally_all, rules)
