@@ -1,23 +1,18 @@
 -- Laws of the text of records: forms by their kinds, fields in turn, records in turn. Assumes nothing.
 use Prim.Native.Nat.{ℕ, zero, suc, ◌+◌, ◌-◌, ◌*◌, ◌/◌, ◌<◌, ◌≤◌}
 use native.Mathlib.Omega.{arith}
-use native.Mathlib.Numerals.{add-one}
 use native.Mathlib.Nat.{add-zero}
 use mathlib.Core.Path.{◌≡◌, refl, sym, ap, ◌∙◌, subst}
 use mathlib.Core.List.{List, [], ◌∷◌, ◌++◌, append_assoc}
 use mathlib.Core.Bool.{Bool, true, false, cond}
 use mathlib.Core.Option.{Option, none, some}
 use lib.ListN.{length, get_or, take, drop, set, length-append, length-drop, drop_of_length-le, get_or-eq_default}
-use lib.Seq.{sets, drop-drop, get_or-drop}
+use lib.Seq.{sets, drop-drop, get_or-drop, get_or-take, length-take-le}
 use lib.Dec.{leb, ltb}
-use borrow.Author.Tests.{lt-ltb, le-ltb, ltb-true, ltb-false, eq-eqb, ne_eqb, le-leb, lt-leb, leb-true}
-use Rattle.text.specs.declared.Answer as answer
-use Rattle.text.specs.declared.Answer.TheVariants as answers
-use Rattle.text.specs.declared.Verdict.{Verdict}
-use Rattle.text.specs.declared.Verdict.TheVariants.{Fine, Flawed}
+use borrow.Author.Tests.{lt-ltb, le-ltb, ltb-true, ltb-false, le-leb, lt-leb, leb-true}
 use Rattle.text.specs.Bytes.{bytes}
 use Rattle.text.specs.Decimal.{digits}
-use Rattle.text.specs.Room.{be16, fitted, filled}
+use Rattle.text.specs.Room.{be16, fitted, filled, refusal_at}
 use Rattle.text.specs.Room as room'
 use Rattle.text.proofs.Options.{none_some}
 use Rattle.text.proofs.Slices.{part_from}
@@ -27,6 +22,8 @@ use Rattle.words.specs.Words.{bodies, body_of, record_len}
 use Rattle.wording.specs.Words.{Worded, worded, unworded, Form, forms, form_of, total, field_of, fields_text, record_text, then, on_form, wording_from, wording_of, text_answer, text_room}
 use Rattle.wording.specs.Steps.{word_by, fields_by, len_by, text_by, first_text, field_text, row_fields, wording_at, flaw_in, worded_text, answer_from, answer_past, hindrance_by}
 use Rattle.text.proofs.Scans.{drop_step}
+use Rattle.std.proofs.Common.{Result, Ok, Err}
+use Rattle.text.specs.declared.Refusal.{Refusal}
 
 -- ---- kinds
 
@@ -89,26 +86,22 @@ form_small k f e = go (ltb 7 k) refl
 pub whole_kind : (k left : ℕ) → 0 < len_by (form_of k) left → k ≤ 7
 whole_kind k left h = let w = whole (form_of k) left h in form_small k w.what w.is
 
--- ---- the table of widths
+-- ---- the table of kinds
+
+-- one of eight
+pub each_kind : {P : Type 0} (k : ℕ) → k ≤ 7 → (k ≡ 0 → P) → (k ≡ 1 → P) → (k ≡ 2 → P) → (k ≡ 3 → P) → (k ≡ 4 → P) → (k ≡ 5 → P) → (k ≡ 6 → P) → (k ≡ 7 → P) → P
+each_kind {P} k l =
+    eight (λ (n : ℕ). (n ≡ 0 → P) → (n ≡ 1 → P) → (n ≡ 2 → P) → (n ≡ 3 → P) → (n ≡ 4 → P) → (n ≡ 5 → P) → (n ≡ 6 → P) → (n ≡ 7 → P) → P)
+    (λ a b c d e f g h. a refl) (λ a b c d e f g h. b refl) (λ a b c d e f g h. c refl) (λ a b c d e f g h. d refl)
+    (λ a b c d e f g h. e refl) (λ a b c d e f g h. f refl) (λ a b c d e f g h. g refl) (λ a b c d e f g h. h refl) k l
 
 abbrev pub width_rows : List (List ℕ)
-width_rows =
-    (0 ∷ 0 ∷ 0 ∷ 0 ∷ 0 ∷ 0 ∷ [])
-    ∷ (1 ∷ 0 ∷ 0 ∷ 0 ∷ 0 ∷ 0 ∷ [])
-    ∷ (1 ∷ 2 ∷ 2 ∷ 0 ∷ 0 ∷ 0 ∷ [])
-    ∷ (2 ∷ 2 ∷ 0 ∷ 0 ∷ 0 ∷ 0 ∷ [])
-    ∷ (2 ∷ 2 ∷ 1 ∷ 2 ∷ 2 ∷ 0 ∷ [])
-    ∷ (1 ∷ 2 ∷ 0 ∷ 0 ∷ 0 ∷ 0 ∷ [])
-    ∷ (0 ∷ 0 ∷ 0 ∷ 0 ∷ 0 ∷ 0 ∷ [])
-    ∷ (0 ∷ 0 ∷ 0 ∷ 0 ∷ 0 ∷ 0 ∷ [])
-    ∷ []
+width_rows = [] ∷ (1 ∷ []) ∷ (1 ∷ 2 ∷ 2 ∷ []) ∷ (2 ∷ 2 ∷ []) ∷ (2 ∷ 2 ∷ 1 ∷ 2 ∷ 2 ∷ []) ∷ (1 ∷ 2 ∷ []) ∷ [] ∷ [] ∷ []
 
+-- none of its widths is zero
 pub row_fields_lem : (k : ℕ) → k ≤ 7 → row_fields (get_or width_rows k []) ≡ fields_by (form_of k)
 unfolding row_fields form_of forms
 row_fields_lem = eight (λ (k : ℕ). row_fields (get_or width_rows k []) ≡ fields_by (form_of k)) refl refl refl refl refl refl refl refl
-
-pub row_length : (k : ℕ) → k ≤ 7 → length (get_or width_rows k []) ≡ 6
-row_length = eight (λ (k : ℕ). length (get_or width_rows k []) ≡ 6) refl refl refl refl refl refl refl refl
 
 pub word_short : (k : ℕ) → k ≤ 7 → length (word_by (form_of k)) ≤ 8
 unfolding form_of forms bytes
@@ -118,42 +111,21 @@ pub fields_few : (k : ℕ) → k ≤ 7 → length (fields_by (form_of k)) ≤ 5
 unfolding form_of forms
 fields_few = eight (λ (k : ℕ). length (fields_by (form_of k)) ≤ 5) (omega arith) (omega arith) (omega arith) (omega arith) (omega arith) (omega arith) (omega arith) (omega arith)
 
--- any other number is no kind, and has no word
-pub word_none : (k : ℕ) → (k ≡ 1 → ⊥) → (k ≡ 2 → ⊥) → (k ≡ 3 → ⊥) → (k ≡ 4 → ⊥) → (k ≡ 5 → ⊥) → (k ≡ 6 → ⊥) → (k ≡ 7 → ⊥) → word_by (form_of k) ≡ []
-unfolding form_of forms
-word_none k a b c d e f g = go (ltb 7 k) refl
-  where
-    small : (n : ℕ) → n ≤ 7 → (n ≡ 1 → ⊥) → (n ≡ 2 → ⊥) → (n ≡ 3 → ⊥) → (n ≡ 4 → ⊥) → (n ≡ 5 → ⊥) → (n ≡ 6 → ⊥) → (n ≡ 7 → ⊥) → word_by (form_of n) ≡ []
-    small = eight
-        (λ (n : ℕ). (n ≡ 1 → ⊥) → (n ≡ 2 → ⊥) → (n ≡ 3 → ⊥) → (n ≡ 4 → ⊥) → (n ≡ 5 → ⊥) → (n ≡ 6 → ⊥) → (n ≡ 7 → ⊥) → word_by (form_of n) ≡ [])
-        (λ a b c d e f g. refl) (λ a b c d e f g. absurd (a refl)) (λ a b c d e f g. absurd (b refl)) (λ a b c d e f g. absurd (c refl))
-        (λ a b c d e f g. absurd (d refl)) (λ a b c d e f g. absurd (e refl)) (λ a b c d e f g. absurd (f refl)) (λ a b c d e f g. absurd (g refl))
-
-    go : (t : Bool) → ltb 7 k ≡ t → word_by (form_of k) ≡ []
-    go true q = ap word_by (form_past k (ltb-true 7 k q))
-    go false q = small k (ltb-false 7 k q) a b c d e f g
-
 -- ---- fields
 
-pub field_one : (s : List ℕ) (p w r : ℕ) → w ≡ 1 → r ≡ get_or s p 0 → r ≡ field_of w (drop p s)
-field_one s p w r e h =
-    let g : get_or (drop p s) 0 0 ≡ get_or s p 0 = get_or-drop p s 0 0 ∙ ap (λ (k : ℕ). get_or s k 0) (add-zero p) in
-    h ∙ sym g ∙ sym (ap (λ (v : ℕ). field_of v (drop p s)) e)
+field_cut : (w : ℕ) (s : List ℕ) → field_of w (take w s) ≡ field_of w s
+field_cut zero s = refl
+field_cut (suc zero) s = get_or-take 1 s 0 0 (omega arith)
+field_cut (suc (suc w)) s = omega (arith, get_or-take (suc (suc w)) s 0 0 (omega arith), get_or-take (suc (suc w)) s 1 0 (omega arith))
 
-pub field_two : (s : List ℕ) (p w r : ℕ) → 0 < w → (w ≡ 1 → ⊥) → r ≡ be16 (get_or s p 0) (get_or s (p + 1) 0) → r ≡ field_of w (drop p s)
-field_two s p zero r l n h = absurd (omega arith)
-field_two s p (suc zero) r l n h = absurd (n refl)
-field_two s p (suc (suc w)) r l n h =
-    let a : get_or (drop p s) 0 0 ≡ get_or s p 0 = get_or-drop p s 0 0 ∙ ap (λ (k : ℕ). get_or s k 0) (add-zero p) in
-    let b : get_or (drop p s) 1 0 ≡ get_or s (p + 1) 0 = get_or-drop p s 1 0 in
-    omega (arith, h, a, b)
+-- a field read by its bytes alone, b, the first w of s
+pub field_read : (w n : ℕ) (s b : List ℕ) (r : ℕ) → n ≡ w → b ≡ take n s → w ≤ length s → r ≡ field_of (length b) b → r ≡ field_of w s
+field_read w n s b r e f h v =
+    let its = f ∙ ap (λ (m : ℕ). take m s) e in
+    v ∙ ap (λ (l : List ℕ). field_of (length l) l) its ∙ ap (λ (m : ℕ). field_of m (take w s)) (length-take-le w s h) ∙ field_cut w s
 
 field_length : (n : ℕ) → length (field_text n) ≤ 6
 field_length n = omega (arith, length_digits n, width_between n)
-
--- a space and then a number
-pub field_put : (o a b t : List ℕ) (at : ℕ) → a ≡ set o at 32 → b ≡ sets a (at + 1) t → b ≡ sets (set o at 32) (suc at) t
-field_put o a b t at e f = f ∙ ap (λ (l : List ℕ). sets l (at + 1) t) e ∙ ap (λ (k : ℕ). sets (set o at 32) k t) (add-one at)
 
 pub fields_short : (ws s : List ℕ) → length (fields_text ws s) ≤ 6 * length ws
 unfolding fields_text
@@ -161,72 +133,44 @@ fields_short [] s = omega arith
 fields_short (w ∷ ws) s =
     omega (arith, field_length (field_of w s), length-append (digits (field_of w s)) (fields_text ws (drop w s)), fields_short ws (drop w s))
 
-module _ (ws : List ℕ) (j : ℕ) where
-  pub row_end : j < length ws → get_or ws j 0 ≡ 0 → row_fields (drop j ws) ≡ []
-  unfolding row_fields
-  row_end h e = ap row_fields (drop_step ws j h) ∙ ap (λ (t : Bool). cond t [] (get_or ws j 0 ∷ row_fields (drop (j + 1) ws))) (eq-eqb (get_or ws j 0) 0 e)
-
-  pub row_more : j < length ws → (get_or ws j 0 ≡ 0 → ⊥) → row_fields (drop j ws) ≡ get_or ws j 0 ∷ row_fields (drop (j + 1) ws)
-  unfolding row_fields
-  row_more h e = ap row_fields (drop_step ws j h) ∙ ap (λ (t : Bool). cond t [] (get_or ws j 0 ∷ row_fields (drop (j + 1) ws))) (ne_eqb (get_or ws j 0) 0 e)
-
-  pub row_past : length ws ≤ j → row_fields (drop j ws) ≡ []
-  unfolding row_fields
-  row_past h = ap row_fields (drop_of_length-le ws h)
-
--- what is left of the fields
-abbrev pub fields_left : List ℕ → List ℕ → ℕ → ℕ → List ℕ
-fields_left ws body j p = fields_text (row_fields (drop j ws)) (drop p body)
-
-module _ (ws body : List ℕ) (j p : ℕ) where
-  pub left_none : row_fields (drop j ws) ≡ [] → fields_left ws body j p ≡ []
-  unfolding fields_text
-  left_none e = ap (λ (l : List ℕ). fields_text l (drop p body)) e
-
-  pub left_more : j < length ws → (get_or ws j 0 ≡ 0 → ⊥)
-      → fields_left ws body j p ≡ field_text (field_of (get_or ws j 0) (drop p body)) ++ fields_left ws body (j + 1) (p + get_or ws j 0)
-  unfolding fields_text
-  left_more h e =
-      ap (λ (l : List ℕ). fields_text l (drop p body)) (row_more ws j h e)
-      ∙ ap (λ (d : List ℕ). field_text (field_of (get_or ws j 0) (drop p body)) ++ fields_text (row_fields (drop (j + 1) ws)) d) (drop-drop (get_or ws j 0) p body)
-
-  pub done_count : (n L : ℕ) → row_fields (drop j ws) ≡ [] → n + length (fields_left ws body j p) ≡ L → n ≡ L
-  done_count n L e inv = omega (arith, inv, ap length (left_none e))
-
-  pub done_sets : (k : ℕ) (out S : List ℕ) → row_fields (drop j ws) ≡ [] → sets out k (fields_left ws body j p) ≡ S → out ≡ S
-  done_sets k out S e inv = sym (ap (sets out k) (left_none e)) ∙ inv
-
-  pub left_some : j < length ws → (get_or ws j 0 ≡ 0 → ⊥) → 1 ≤ length (fields_left ws body j p)
-  left_some h e =
-      omega (
-        arith,
-        ap length (left_more h e),
-        length-append (field_text (field_of (get_or ws j 0) (drop p body))) (fields_left ws body (j + 1) (p + get_or ws j 0)),
-      )
-
-  pub total_more : j < length ws → (get_or ws j 0 ≡ 0 → ⊥) → total (row_fields (drop j ws)) ≡ get_or ws j 0 + total (row_fields (drop (j + 1) ws))
+-- the fields from the j-th on, of what is left of the body
+module _ (ws rest : List ℕ) (j : ℕ) (h : j < length ws) where
+  pub total_more : total (drop j ws) ≡ get_or ws j 0 + total (drop (j + 1) ws)
   unfolding total
-  total_more h e = ap total (row_more ws j h e)
+  total_more = ap total (drop_step ws j h)
 
-  module _ (h : j < length ws) (e : get_or ws j 0 ≡ 0 → ⊥) (f m : ℕ) (is : f ≡ field_of (get_or ws j 0) (drop p body)) (count : m ≡ length (field_text f)) where
-    here : fields_left ws body j p ≡ field_text f ++ fields_left ws body (j + 1) (p + get_or ws j 0)
-    here = left_more h e ∙ ap (λ (x : ℕ). field_text x ++ fields_left ws body (j + 1) (p + get_or ws j 0)) (sym is)
+  text_more : fields_text (drop j ws) rest ≡ field_text (field_of (get_or ws j 0) rest) ++ fields_text (drop (j + 1) ws) (drop (get_or ws j 0) rest)
+  unfolding fields_text
+  text_more = ap (λ (l : List ℕ). fields_text l rest) (drop_step ws j h)
 
-    pub length_more : length (fields_left ws body j p) ≡ m + length (fields_left ws body (j + 1) (p + get_or ws j 0))
+  pub fields_some : 1 ≤ length (fields_text (drop j ws) rest)
+  fields_some =
+      omega (arith, ap length text_more, length-append (field_text (field_of (get_or ws j 0) rest)) (fields_text (drop (j + 1) ws) (drop (get_or ws j 0) rest)))
+
+  module _ (f m : ℕ) (is : f ≡ field_of (get_or ws j 0) rest) (count : m ≡ length (field_text f)) where
+    here : fields_text (drop j ws) rest ≡ field_text f ++ fields_text (drop (j + 1) ws) (drop (get_or ws j 0) rest)
+    here = text_more ∙ ap (λ (x : ℕ). field_text x ++ fields_text (drop (j + 1) ws) (drop (get_or ws j 0) rest)) (sym is)
+
+    pub length_more : length (fields_text (drop j ws) rest) ≡ m + length (fields_text (drop (j + 1) ws) (drop (get_or ws j 0) rest))
     length_more =
         ap length here
-        ∙ length-append (field_text f) (fields_left ws body (j + 1) (p + get_or ws j 0))
-        ∙ ap (λ (k : ℕ). k + length (fields_left ws body (j + 1) (p + get_or ws j 0))) (sym count)
+        ∙ length-append (field_text f) (fields_text (drop (j + 1) ws) (drop (get_or ws j 0) rest))
+        ∙ ap (λ (k : ℕ). k + length (fields_text (drop (j + 1) ws) (drop (get_or ws j 0) rest))) (sym count)
 
-    pub sets_more : (at n : ℕ) (out out' S : List ℕ) → sets out (at + n) (fields_left ws body j p) ≡ S → out' ≡ sets out (at + n) (field_text f)
-        → sets out' (at + (n + m)) (fields_left ws body (j + 1) (p + get_or ws j 0)) ≡ S
+    pub sets_more : (at n : ℕ) (out out' S : List ℕ) → sets out (at + n) (fields_text (drop j ws) rest) ≡ S → out' ≡ sets out (at + n) (field_text f)
+        → sets out' (at + (n + m)) (fields_text (drop (j + 1) ws) (drop (get_or ws j 0) rest)) ≡ S
     sets_more at n out out' S inv put =
+        let more = fields_text (drop (j + 1) ws) (drop (get_or ws j 0) rest) in
         let k : at + (n + m) ≡ at + n + length (field_text f) = omega (arith, count) in
-        ap (λ (o : List ℕ). sets o (at + (n + m)) (fields_left ws body (j + 1) (p + get_or ws j 0))) put
-        ∙ ap (λ (i : ℕ). sets (sets out (at + n) (field_text f)) i (fields_left ws body (j + 1) (p + get_or ws j 0))) k
-        ∙ sets_append (field_text f) (fields_left ws body (j + 1) (p + get_or ws j 0)) out (at + n)
+        ap (λ (o : List ℕ). sets o (at + (n + m)) more) put
+        ∙ ap (λ (i : ℕ). sets (sets out (at + n) (field_text f)) i more) k
+        ∙ sets_append (field_text f) more out (at + n)
         ∙ ap (sets out (at + n)) (sym here)
         ∙ inv
+
+pub fields_end : (ws rest : List ℕ) (j : ℕ) → length ws ≤ j → fields_text (drop j ws) rest ≡ []
+unfolding fields_text
+fields_end ws rest j h = ap (λ (l : List ℕ). fields_text l rest) (drop_of_length-le ws h)
 
 -- ---- one record
 
@@ -236,55 +180,33 @@ unfolding first_text
 first_is s f e = rw e refl
 
 -- a word, then fields, then an end of line are the text of a record
-module _ (s : List ℕ) (there : 0 < len_by (form_of (get_or s 0 0)) (length s)) where
-  k : ℕ
-  k = get_or s 0 0
-
+module _ (s : List ℕ) (there : 0 < len_by (form_of (get_or s 0 0)) (length s)) (word widths : List ℕ) (its : word ≡ word_by (form_of (get_or s 0 0)))
+    (fields : widths ≡ fields_by (form_of (get_or s 0 0))) where
   fs : List ℕ
-  fs = fields_text (row_fields (get_or width_rows (get_or s 0 0) [])) (take (length s - 1) (drop 1 s))
+  fs = fields_text widths (take (length s - 1) (drop 1 s))
 
-  fields_are : fs ≡ fields_text (fields_by (form_of (get_or s 0 0))) (drop 1 s)
-  unfolding fs
-  fields_are =
-      ap (λ (r : List ℕ). fields_text (row_fields (get_or width_rows (get_or s 0 0) [])) r) (part_from s 1)
-      ∙ ap (λ (l : List ℕ). fields_text l (drop 1 s)) (row_fields_lem (get_or s 0 0) (whole_kind (get_or s 0 0) (length s) there))
-
-  pub first_some : 1 ≤ length s
-  first_some = omega (arith, (whole (form_of (get_or s 0 0)) (length s) there).within)
-
-  pub first_parts : first_text s ≡ word_by (form_of (get_or s 0 0)) ++ (fields_text (row_fields (get_or width_rows (get_or s 0 0) [])) (take (length s - 1) (drop 1 s)) ++ (10 ∷ []))
+  first_parts : first_text s ≡ word ++ (fs ++ (10 ∷ []))
   unfolding fs
   first_parts =
-      first_is s (whole (form_of (get_or s 0 0)) (length s) there).what (whole (form_of (get_or s 0 0)) (length s) there).is
-      ∙ ap (λ (l : List ℕ). word_by (form_of (get_or s 0 0)) ++ (l ++ (10 ∷ []))) (sym fields_are)
-
-  pub first_length : length (first_text s)
-      ≡ length (word_by (form_of (get_or s 0 0))) + (length (fields_text (row_fields (get_or width_rows (get_or s 0 0) [])) (take (length s - 1) (drop 1 s))) + 1)
-  unfolding fs
-  first_length = ap length first_parts ∙ length-append (word_by (form_of (get_or s 0 0))) (fs ++ (10 ∷ [])) ∙ ap (λ (n : ℕ). length (word_by (form_of (get_or s 0 0))) + n) (length-append fs (10 ∷ []))
-
-  pub body_within : total (row_fields (get_or width_rows (get_or s 0 0) [])) ≤ length (take (length s - 1) (drop 1 s))
-  body_within =
       let w = whole (form_of (get_or s 0 0)) (length s) there in
-      omega (
-        arith,
-        w.within,
-        ap total (row_fields_lem (get_or s 0 0) (whole_kind (get_or s 0 0) (length s) there) ∙ ap fields_by w.is),
-        ap length (part_from s 1),
-        length-drop 1 s,
-      )
+      first_is s w.what w.is
+      ∙ ap (λ (l : List ℕ). l ++ (fields_text (fields_by (form_of (get_or s 0 0))) (drop 1 s) ++ (10 ∷ []))) (sym its)
+      ∙ ap (λ (l : List ℕ). word ++ (fields_text l (drop 1 s) ++ (10 ∷ []))) (sym fields)
+      ∙ ap (λ (r : List ℕ). word ++ (fields_text widths r ++ (10 ∷ []))) (sym (part_from s 1))
 
-  pub first_put : (at a b : ℕ) (o x y z : List ℕ) → a ≡ length (word_by (form_of (get_or s 0 0))) → x ≡ sets o at (word_by (form_of (get_or s 0 0)))
-      → b ≡ length (fields_text (row_fields (get_or width_rows (get_or s 0 0) [])) (take (length s - 1) (drop 1 s)))
-      → y ≡ sets x (at + a) (fields_text (row_fields (get_or width_rows (get_or s 0 0) [])) (take (length s - 1) (drop 1 s)))
-      → z ≡ set y (at + a + b) 10 → (a + b + 1 ≡ length (first_text s)) × (z ≡ sets o at (first_text s))
+  pub first_length : length (first_text s) ≡ length word + (length (fields_text widths (take (length s - 1) (drop 1 s))) + 1)
   unfolding fs
-  first_put at a b o x y z la ex lb ey ez =
-      let word = word_by (form_of (get_or s 0 0)) in
-      let two = then_sets o word x y at (at + a) ex (ap (λ (n : ℕ). at + n) la) fs ey in
-      let place : at + a + b ≡ at + length (word ++ fs) = omega (arith, la, lb, length-append word fs) in (
-        omega (arith, la, lb, first_length),
-        then_set o (word ++ fs) y z at (at + a + b) two place 10 ez
+  first_length = ap length first_parts ∙ length-append word (fs ++ (10 ∷ [])) ∙ ap (λ (n : ℕ). length word + n) (length-append fs (10 ∷ []))
+
+  pub first_put : (at b : ℕ) (o x y z : List ℕ) → x ≡ sets o at word → b ≡ length (fields_text widths (take (length s - 1) (drop 1 s)))
+      → y ≡ sets x (at + length word) (fields_text widths (take (length s - 1) (drop 1 s)))
+      → z ≡ set y (at + (length word + b)) 10 → (length word + b + 1 ≡ length (first_text s)) × (z ≡ sets o at (first_text s))
+  unfolding fs
+  first_put at b o x y z ex lb ey ez =
+      let two = then_sets o word x y at (at + length word) ex refl fs ey in
+      let place : at + (length word + b) ≡ at + length (word ++ fs) = omega (arith, lb, length-append word fs) in (
+        omega (arith, lb, first_length),
+        then_set o (word ++ fs) y z at (at + (length word + b)) two place 10 ez
             ∙ ap (sets o at) (append_assoc word fs (10 ∷ []) ∙ sym first_parts),
       )
 
@@ -365,7 +287,7 @@ pub flaw_then : (t : List ℕ) (u : Worded) → flaw_in (then t u) ≡ flaw_in u
 flaw_then t (worded s) = refl
 flaw_then t (unworded n p) = refl
 
-pub text_then : (t : List ℕ) (u : Worded) → flaw_in u ≡ Fine → worded_text (then t u) ≡ t ++ worded_text u
+pub text_then : (t : List ℕ) (u : Worded) → flaw_in u ≡ Ok tt → worded_text (then t u) ≡ t ++ worded_text u
 text_then t (worded s) e = refl
 text_then t (unworded n p) e = cc
 
@@ -381,7 +303,7 @@ answer_then at room t (worded s) =
     let e : at + length (t ++ s) ≡ at + length t + length s = omega (arith, length-append t s) in rw e refl
 answer_then at room t (unworded n p) = refl
 
-pub answer_end : (at room : ℕ) → at ≤ room → answer_from at room (worded []) ≡ answers.Wrote at
+pub answer_end : (at room : ℕ) → at ≤ room → answer_from at room (worded []) ≡ Ok at
 answer_end at room h = let e : at + 0 ≡ at = add-zero at in rw (e, le-leb at room h) refl
 
 pub answer_past_lem : (at room : ℕ) (u : Worded) → room < at → answer_from at room u ≡ answer_past (flaw_in u)
@@ -434,7 +356,7 @@ module _ (rs : List ℕ) (p n : ℕ) (h : p < length rs) (len : n ≡ len_by (fo
     pub flaw_on : flaw_in (wording_at (p + n) rs) ≡ flaw_in (wording_at p rs)
     flaw_on = sym (ap flaw_in text_good ∙ flaw_then (first_text (drop p rs)) (wording_at (p + n) rs))
 
-    pub answer_on : (at room v : ℕ) (A : answer.Answer) → A ≡ answer_from at room (wording_at p rs) → v ≡ length (first_text (take (length rs - p) (drop p rs)))
+    pub answer_on : (at room v : ℕ) (A : Result ℕ Refusal) → A ≡ answer_from at room (wording_at p rs) → v ≡ length (first_text (take (length rs - p) (drop p rs)))
         → A ≡ answer_from (at + v) room (wording_at (p + n) rs)
     answer_on at room v A inv e =
         inv
@@ -442,7 +364,7 @@ module _ (rs : List ℕ) (p n : ℕ) (h : p < length rs) (len : n ≡ len_by (fo
         ∙ answer_then at room (first_text (take (length rs - p) (drop p rs))) (wording_at (p + n) rs)
         ∙ ap (λ (k : ℕ). answer_from (at + k) room (wording_at (p + n) rs)) (sym e)
 
-    module _ (fine : flaw_in (wording_at p rs) ≡ Fine) (v : ℕ) (count : v ≡ length (first_text (take (length rs - p) (drop p rs)))) where
+    module _ (fine : flaw_in (wording_at p rs) ≡ Ok tt) (v : ℕ) (count : v ≡ length (first_text (take (length rs - p) (drop p rs)))) where
       text_on_lem : worded_text (wording_at p rs) ≡ first_text (take (length rs - p) (drop p rs)) ++ worded_text (wording_at (p + n) rs)
       text_on_lem = ap worded_text good_from ∙ text_then (first_text (take (length rs - p) (drop p rs))) (wording_at (p + n) rs) (flaw_on ∙ fine)
 
@@ -523,30 +445,30 @@ short_fits room rs h = ap flaw_in (text_start rs) ∙ go (wording_of rs) (text_o
     go (unworded n p) l = refl
 
 -- nothing hinders: the records are good, the text fits, and its length is the answer
-pub fine_fits : (room : ℕ) (u : Worded) → Fine ≡ hindrance_by (text_answer room u)
-    → (flaw_in u ≡ Fine) × (length (worded_text u) ≤ room) × (answers.Wrote (length (worded_text u)) ≡ text_answer room u)
+pub fine_fits : (room : ℕ) (u : Worded) → Ok tt ≡ hindrance_by (text_answer room u)
+    → (flaw_in u ≡ Ok tt) × (length (worded_text u) ≤ room) × (Ok (length (worded_text u)) ≡ text_answer room u)
 unfolding fitted
 fine_fits room (worded t) h = go (leb (length t) room) refl h
   where
-    go : (b : Bool) → leb (length t) room ≡ b → Fine ≡ hindrance_by (cond b (answers.Wrote (length t)) (answers.Refused 19 0))
-        → (◌≡◌ {A = Verdict} Fine Fine) × (length t ≤ room) × (answers.Wrote (length t) ≡ cond b (answers.Wrote (length t)) (answers.Refused 19 0))
+    go : (b : Bool) → leb (length t) room ≡ b → Ok tt ≡ hindrance_by (cond b (Ok (length t)) (Err (refusal_at 19 0)))
+        → (◌≡◌ {A = Result Unit Refusal} (Ok tt) (Ok tt)) × (length t ≤ room) × (Ok (length t) ≡ cond b (Ok (length t)) (Err (refusal_at 19 0)))
     go true e q = (refl, leb-true (length t) room e, refl)
     go false e q = let z : ◌≡◌ {A = ℕ} 0 1 = cc in absurd (omega arith)
 fine_fits room (unworded k p) h = let z : ◌≡◌ {A = ℕ} 0 1 = cc in absurd (omega arith)
 
-pub flawed_refused : (a : answer.Answer) (n p : ℕ) → Flawed n p ≡ hindrance_by a → answers.Refused n p ≡ a
-flawed_refused (answers.Wrote m) n p h = cc
-flawed_refused (answers.Refused m q) n p h = cc
+pub flawed_refused : (a : Result ℕ Refusal) (n p : ℕ) → Err (refusal_at n p) ≡ hindrance_by a → Err (refusal_at n p) ≡ a
+flawed_refused (Ok m) n p h = cc
+flawed_refused (Err e) n p h = cc
 
-pub room_filled : (out : List ℕ) (u : Worded) → flaw_in u ≡ Fine → length (worded_text u) ≤ length out → sets out 0 (worded_text u) ≡ text_room out u
+pub room_filled : (out : List ℕ) (u : Worded) → flaw_in u ≡ Ok tt → length (worded_text u) ≤ length out → sets out 0 (worded_text u) ≡ text_room out u
 room_filled out (worded t) e h = filled_sets out t h
 room_filled out (unworded k p) e h = refl
 
-pub room_refused : (out : List ℕ) (u : Worded) (n p : ℕ) → answers.Refused n p ≡ text_answer (length out) u → out ≡ text_room out u
+pub room_refused : (out : List ℕ) (u : Worded) (n p : ℕ) → Err (refusal_at n p) ≡ text_answer (length out) u → out ≡ text_room out u
 unfolding fitted filled
 room_refused out (worded t) n p h = go (leb (length t) (length out)) h
   where
-    go : (b : Bool) → answers.Refused n p ≡ cond b (answers.Wrote (length t)) (answers.Refused 19 0) → out ≡ cond b (room'.wrote out t) out
+    go : (b : Bool) → Err (refusal_at n p) ≡ cond b (Ok (length t)) (Err (refusal_at 19 0)) → out ≡ cond b (room'.wrote out t) out
     go true h = let z : ◌≡◌ {A = ℕ} 0 1 = cc in absurd (omega arith)
     go false h = refl
 room_refused out (unworded k q) n p h = refl

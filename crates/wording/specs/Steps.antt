@@ -1,12 +1,10 @@
 -- The text of records taken one record at a time, as the code takes it.
-use Rattle.std.specs.Prelude.{ℕ, ◌+◌, ◌-◌, List, [], ◌∷◌, cond, length, get_or, drop, eqb, leb, ltb}
+use Rattle.std.specs.Prelude.{ℕ, ◌+◌, ◌-◌, List, [], ◌∷◌, cond, length, get_or, drop, eqb, leb, ltb, Result, Ok, Err}
 use Rattle.std.proofs.Math.Option.{Option, none, some}
-use Rattle.text.specs.declared.Answer as answer
-use Rattle.text.specs.declared.Answer.TheVariants as answers
-use Rattle.text.specs.declared.Verdict.{Verdict}
-use Rattle.text.specs.declared.Verdict.TheVariants.{Fine, Flawed}
 use Rattle.text.specs.Decimal.{digits}
 use Rattle.wording.specs.Words.{Worded, worded, unworded, Form, form_of, total, record_text, wording_from}
+use Rattle.text.specs.Room.{refusal_at}
+use Rattle.text.specs.declared.Refusal.{Refusal}
 
 -- ---- by the form of a kind: its word, its fields; nothing where there is no such kind
 
@@ -45,25 +43,25 @@ row_fields (w ∷ ws) = let more = w ∷ row_fields ws in cond (eqb w 0) [] more
 unfoldable pub wording_at : ℕ → List ℕ → Worded
 wording_at p rs = wording_from (length rs - p) p (drop p rs)
 
-abbrev pub flaw_in : Worded → Verdict
-flaw_in (worded t) = Fine
-flaw_in (unworded n p) = Flawed n p
+abbrev pub flaw_in : Worded → Result Unit Refusal
+flaw_in (worded t) = Ok tt
+flaw_in (unworded n p) = Err (refusal_at n p)
 
 abbrev pub worded_text : Worded → List ℕ
 worded_text (worded t) = t
 worded_text (unworded n p) = []
 
 -- the answer with so many bytes of text before
-abbrev pub answer_from : ℕ → ℕ → Worded → answer.Answer
-answer_from at room (worded t) = cond (leb (at + length t) room) (answers.Wrote (at + length t)) (answers.Refused 19 0)
-answer_from at room (unworded n p) = answers.Refused n p
+abbrev pub answer_from : ℕ → ℕ → Worded → Result ℕ Refusal
+answer_from at room (worded t) = cond (leb (at + length t) room) (Ok (at + length t)) (Err (refusal_at 19 0))
+answer_from at room (unworded n p) = Err (refusal_at n p)
 
 -- the answer where the text does not fit: a flaw comes first
-abbrev pub answer_past : Verdict → answer.Answer
-answer_past Fine = answers.Refused 19 0
-answer_past (Flawed n p) = answers.Refused n p
+abbrev pub answer_past : Result Unit Refusal → Result ℕ Refusal
+answer_past (Ok u) = Err (refusal_at 19 0)
+answer_past (Err e) = Err (refusal_at e.number e.place)
 
 -- what hinders it
-abbrev pub hindrance_by : answer.Answer → Verdict
-hindrance_by (answers.Wrote n) = Fine
-hindrance_by (answers.Refused n p) = Flawed n p
+abbrev pub hindrance_by : Result ℕ Refusal → Result Unit Refusal
+hindrance_by (Ok n) = Ok tt
+hindrance_by (Err e) = Err (refusal_at e.number e.place)

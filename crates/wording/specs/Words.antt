@@ -1,11 +1,10 @@
 -- The text of records: each as its kind's word and fields in decimal, in the order of the fields, one line each.
-use Rattle.std.specs.Prelude.{ℕ, zero, suc, ◌+◌, List, [], ◌∷◌, ◌++◌, cond, length, get_or, drop, ltb}
+use Rattle.std.specs.Prelude.{ℕ, zero, suc, ◌+◌, List, [], ◌∷◌, ◌++◌, cond, length, get_or, drop, ltb, Err, Result}
 use Rattle.std.proofs.Math.Option.{Option, none, some}
-use Rattle.text.specs.declared.Answer as answer
-use Rattle.text.specs.declared.Answer.TheVariants as answers
 use Rattle.text.specs.Bytes.{bytes}
 use Rattle.text.specs.Decimal.{digits}
-use Rattle.text.specs.Room.{be16, fitted, filled}
+use Rattle.text.specs.Room.{be16, fitted, filled, refusal_at}
+use Rattle.text.specs.declared.Refusal.{Refusal}
 
 -- the text of some records, or one refusal with its place
 pub data Worded : Type 0 where
@@ -74,9 +73,9 @@ unfoldable pub wording_of : List ℕ → Worded
 wording_of s = wording_from (length s) 0 s
 
 -- what writing that text into lent room answers, and what the room then holds
-abbrev pub text_answer : ℕ → Worded → answer.Answer
+abbrev pub text_answer : ℕ → Worded → Result ℕ Refusal
 text_answer room (worded t) = fitted room t
-text_answer room (unworded n p) = answers.Refused n p
+text_answer room (unworded n p) = Err (refusal_at n p)
 
 abbrev pub text_room : List ℕ → Worded → List ℕ
 text_room room (worded t) = filled room t

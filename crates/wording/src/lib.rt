@@ -1,87 +1,53 @@
 // Records as text: each as its kind's word and fields in decimal, one line each.
 #![tactic(auto)]
 
-ghost use Rattle.std.specs.Prelude.{◌≡◌, ◌+◌, ◌≤◌, ◌<◌, length, get_or, drop};
+ghost use Rattle.std.specs.Prelude.{◌≡◌, ◌+◌, ◌≤◌, ◌<◌, length, get_or, MatchOption};
 ghost use Rattle.std.proofs.lemmas.List.Edits.{sets};
-ghost use Rattle.text.specs.declared.Verdict.TheVariants.{Fine};
 ghost use Rattle.wording.specs.Words.{form_of, total, field_of, fields_text, wording_of, text_answer, text_room};
-ghost use Rattle.wording.specs.Steps.{word_by, len_by, first_text, row_fields, field_text, wording_at, flaw_in, worded_text, answer_past, hindrance_by};
+ghost use Rattle.wording.specs.Steps.{word_by, fields_by, len_by, first_text, field_text, wording_at, flaw_in, worded_text, answer_past, hindrance_by};
 
-use text::{Answer, Verdict, copy, pair, put, put_decimal};
+use text::{Refusal, copy, put, put_decimal};
 
-// How many bytes each field of a record has, by its kind: at most five fields, then zeros.
-const WIDTHS: [[u8; 6]; 8] = [
-    [0, 0, 0, 0, 0, 0],
-    [1, 0, 0, 0, 0, 0], // verb
-    [1, 2, 2, 0, 0, 0], // option
-    [2, 2, 0, 0, 0, 0], // target
-    [2, 2, 1, 2, 2, 0], // property
-    [1, 2, 0, 0, 0, 0], // refusal
-    [0, 0, 0, 0, 0, 0], // blank
-    [0, 0, 0, 0, 0, 0], // cut
+// The word of each kind, and how many bytes each of its fields has; 0 is no kind.
+const KINDS: [(&[u8], &[u8]); 8] = [
+    (b"", &[]),
+    (b"verb", &[1]),
+    (b"option", &[1, 2, 2]),
+    (b"target", &[2, 2]),
+    (b"property", &[2, 2, 1, 2, 2]),
+    (b"refusal", &[1, 2]),
+    (b"blank", &[]),
+    (b"cut", &[]),
 ];
 
-// How long the record is that `left` bytes begin with; 0 where a reading has no such kind or it is cut.
-fn len_in(kind: u8, left: usize) -> usize
-    ensures { result ≡ len_by (form_of kind) left }
+// Those of one kind.
+fn kind_of(number: u8) -> (&'static [u8], &'static [u8])
+    requires { number ≤ 7 }
+    ensures { (result.0.now ≡ word_by (form_of number)) × (result.1.now ≡ fields_by (form_of number)) }
 {
-    if 7 < kind {
-        return 0;
-    }
-    let all = words::record_len(kind);
-    if left < all {
-        return 0;
-    }
-    all
+    KINDS[usize::from(number)]
 }
 
-// The word of a kind at a place of the room; tells its length.
-fn put_word(out: &mut [u8], at: usize, kind: u8) -> usize
-    ensures { (result ≡ length (word_by (form_of kind))) × (out.new ≡ sets out.old at (word_by (form_of kind))) }
+// How long the record is that `left` bytes begin with, where a reading has such a kind and it is not cut.
+fn len_in(kind: u8, left: usize) -> Option<usize>
+    ensures { MatchOption result (len_by (form_of kind) left ≡ 0) (λ n. (0 < n) × (n ≡ len_by (form_of kind) left)) }
 {
-    match kind {
-        1 => {
-            copy(out, at, b"verb");
-            4
-        }
-        2 => {
-            copy(out, at, b"option");
-            6
-        }
-        3 => {
-            copy(out, at, b"target");
-            6
-        }
-        4 => {
-            copy(out, at, b"property");
-            8
-        }
-        5 => {
-            copy(out, at, b"refusal");
-            7
-        }
-        6 => {
-            copy(out, at, b"blank");
-            5
-        }
-        7 => {
-            copy(out, at, b"cut");
-            3
-        }
-        _ => 0,
+    let all = words::record_len(kind);
+    if 7 < kind || all == 0 || left < all {
+        return None;
     }
+    Some(all)
 }
 
 // A field's number: one byte, or two, high first.
-fn field(body: &[u8], p: usize, width: u8) -> u16
-    requires width_nonzero { 0 < width }
-    requires width_in_bounds { p + width ≤ length body.now }
-    ensures { result ≡ field_of width (drop p body.now) }
+fn number(field: &[u8]) -> u16
+    ensures { result ≡ field_of (length field.now) field.now }
 {
-    if width == 1 {
-        return body[p] as u16;
+    match field {
+        [] => 0,
+        [b] => u16::from(*b),
+        [high, low, ..] => u16::from_be_bytes([*high, *low]),
     }
-    pair(body[p], body[p + 1]) as u16
 }
 
 // A space and a number at a place of the room; tells how many bytes they are.
@@ -93,24 +59,18 @@ fn put_field(out: &mut [u8], at: usize, n: u16) -> usize
     1 + put_decimal(out, at + 1, n)
 }
 
-// The fields of a body at a place of the room, by their widths.
-fn put_fields(out: &mut [u8], at: usize, widths: [u8; 6], body: &[u8]) -> usize
-    requires widths_in_bounds { total (row_fields widths) ≤ length body.now }
-    requires body_bound { at + length (fields_text (row_fields widths) body.now) ≤ 18446744073709551615 }
-    ensures { (result ≡ length (fields_text (row_fields widths) body.now)) × (out.new ≡ sets out.old at (fields_text (row_fields widths) body.now)) }
+// The fields of a body at a place of the room, by their widths; tells how many bytes they are.
+fn put_fields(out: &mut [u8], at: usize, widths: &[u8], body: &[u8]) -> usize
+    requires widths_in_bounds { total widths.now ≤ length body.now }
+    requires body_bound { at + length (fields_text widths.now body.now) ≤ 18446744073709551615 }
+    ensures { (result ≡ length (fields_text widths.now body.now)) × (out.new ≡ sets out.old at (fields_text widths.now body.now)) }
 {
-    let mut j: usize = 0;
-    let mut p: usize = 0;
-    let mut n: usize = 0;
-    while j < 6 {
-        let w = widths[j];
-        if w == 0 {
-            return n;
-        }
-        let m = put_field(out, at + n, field(body, p, w));
-        n += m;
-        p += w as usize;
-        j += 1;
+    let mut rest = body;
+    let mut n = 0;
+    for w in widths {
+        let (field, more) = rest.split_at(usize::from(*w));
+        n += put_field(out, at + n, number(field));
+        rest = more;
     }
     n
 }
@@ -121,11 +81,11 @@ fn put_record(out: &mut [u8], at: usize, rec: &[u8]) -> usize
     requires rec_bound { at + length (first_text rec.now) ≤ 18446744073709551615 }
     ensures { (result ≡ length (first_text rec.now)) × (out.new ≡ sets out.old at (first_text rec.now)) }
 {
-    let kind = rec[0];
-    let a = put_word(out, at, kind);
-    let b = put_fields(out, at + a, WIDTHS[kind as usize], &rec[1..]);
-    put(out, at + a + b, b'\n');
-    a + b + 1
+    let (word, widths) = kind_of(rec[0]);
+    copy(out, at, word);
+    let n = word.len() + put_fields(out, at + word.len(), widths, &rec[1..]);
+    put(out, at + n, b'\n');
+    n + 1
 }
 
 // How many bytes of text a record is.
@@ -133,57 +93,51 @@ fn text_len(rec: &[u8]) -> usize
     requires { 0 < len_by (form_of (get_or rec.now 0 0)) (length rec.now) }
     ensures { result ≡ length (first_text rec.now) }
 {
-    let mut none = [0u8; 1];
-    put_record(&mut none, 0, rec)
+    put_record(&mut [], 0, rec)
 }
 
-// The first bad record from place `p` on.
-fn flaw(records: &[u8], mut p: usize) -> Verdict
+// The first bad record from place `p` on. This walk and the two below go by the place: a refusal names it, and the walk on from there begins at it.
+fn flaw(records: &[u8], mut p: usize) -> Result<(), Refusal>
     requires { p ≤ length records.now }
     ensures { result ≡ flaw_in (wording_at p records.now) }
 {
     while p < records.len() {
-        let n = len_in(records[p], records.len() - p);
-        if n == 0 {
-            return Verdict::Flawed {
+        let Some(n) = len_in(records[p], records.len() - p) else {
+            return Err(Refusal {
                 number: 15,
                 place: p,
-            };
-        }
+            });
+        };
         p += n;
     }
-    Verdict::Fine
+    Ok(())
 }
 
 // The answer where the text does not fit: a bad record from place `p` on comes first.
-fn no_room(records: &[u8], p: usize) -> Answer
+fn no_room(records: &[u8], p: usize) -> Result<usize, Refusal>
     requires { p ≤ length records.now }
     ensures { result ≡ answer_past (flaw_in (wording_at p records.now)) }
 {
-    let v = flaw(records, p);
-    match v {
-        Verdict::Fine => Answer::Refused {
-            number: 19,
-            place: 0,
-        },
-        Verdict::Flawed { number, place } => Answer::Refused { number, place },
-    }
+    flaw(records, p)?;
+    Err(Refusal {
+        number: 19,
+        place: 0,
+    })
 }
 
 // What writing the text of records into so many bytes of room answers.
-fn measured(records: &[u8], room: usize) -> Answer
+fn measured(records: &[u8], room: usize) -> Result<usize, Refusal>
     ensures { result ≡ text_answer room (wording_of records.now) }
 {
     let mut p: usize = 0;
     let mut at: usize = 0;
     while p < records.len() {
-        let n = len_in(records[p], records.len() - p);
-        if n == 0 {
-            return Answer::Refused {
+        let Some(n) = len_in(records[p], records.len() - p) else {
+            return Err(Refusal {
                 number: 15,
                 place: p,
-            };
-        }
+            });
+        };
         let w = text_len(&records[p..]);
         if room - at < w {
             return no_room(records, p + n);
@@ -191,36 +145,32 @@ fn measured(records: &[u8], room: usize) -> Answer
         at += w;
         p += n;
     }
-    Answer::Wrote(at)
+    Ok(at)
 }
 
 // What hinders writing the text of records into so many bytes of room: a bad record, or 19. No record's text is more than six times as long as it.
-fn hindrance(records: &[u8], room: usize) -> Verdict
+fn hindrance(records: &[u8], room: usize) -> Result<(), Refusal>
     ensures { result ≡ hindrance_by (text_answer room (wording_of records.now)) }
 {
     if records.len() <= room / 6 {
         return flaw(records, 0);
     }
-    let a = measured(records, room);
-    match a {
-        Answer::Wrote(_) => Verdict::Fine,
-        Answer::Refused { number, place } => Verdict::Flawed { number, place },
-    }
+    measured(records, room)?;
+    Ok(())
 }
 
 // Writes the text of records that are good, where it fits; tells how many bytes it is.
 fn write_text(records: &[u8], out: &mut [u8]) -> usize
-    requires records_value { flaw_in (wording_of records.now) ≡ Fine }
+    requires records_value { flaw_in (wording_of records.now) ≡ Ok tt }
     requires records_in_bounds { length (worded_text (wording_of records.now)) ≤ length out.old }
     ensures { (result ≡ length (worded_text (wording_of records.now))) × (out.new ≡ sets out.old 0 (worded_text (wording_of records.now))) }
 {
     let mut p: usize = 0;
     let mut at: usize = 0;
     while p < records.len() {
-        let n = len_in(records[p], records.len() - p);
-        if n == 0 {
+        let Some(n) = len_in(records[p], records.len() - p) else {
             return at;
-        }
+        };
         let w = put_record(out, at, &records[p..]);
         at += w;
         p += n;
@@ -229,18 +179,10 @@ fn write_text(records: &[u8], out: &mut [u8]) -> usize
 }
 
 // Records as text, one line each, in lent room.
-pub fn records_text(records: &[u8], out: &mut [u8]) -> Answer
+pub fn records_text(records: &[u8], out: &mut [u8]) -> Result<usize, Refusal>
     ensures value { result ≡ text_answer (length out.old) (wording_of records.now) }
     ensures out_after { out.new ≡ text_room out.old (wording_of records.now) }
 {
-    let v = hindrance(records, out.len());
-    match v {
-        Verdict::Flawed { number, place } => {
-            return Answer::Refused { number, place };
-        }
-        Verdict::Fine => {
-            let n = write_text(records, out);
-            Answer::Wrote(n)
-        }
-    }
+    hindrance(records, out.len())?;
+    Ok(write_text(records, out))
 }

@@ -1,10 +1,11 @@
 -- `wording::no_room` meets its contract.
 use mathlib.Core.Path.{sym, ap, ◌∙◌}
+use Rattle.std.proofs.Common.{rules}
 use Rattle.wording.specs.Steps.{answer_past}
 use Rattle.wording.proofs.no_room.Goals as goal
 
-pub returns-in-Fine : goal.returns-in-Fine
-returns-in-Fine c = sym (ap answer_past (sym c.flaw-v.ensures ∙ c.in-Fine.is))
+pub returns : goal.returns
+returns c = sym (ap answer_past (sym c.flaw.ensures ∙ c.in_ok-flaw.was))
 
-pub returns-in-Flawed : goal.returns-in-Flawed
-returns-in-Flawed c = sym (ap answer_past (sym c.flaw-v.ensures ∙ c.in-Flawed.is))
+pub returns-in_err-flaw : goal.returns-in_err-flaw
+returns-in_err-flaw c = search rules ∙ sym (ap answer_past (sym c.flaw.ensures ∙ c.in_err-flaw.was))
