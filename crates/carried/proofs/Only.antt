@@ -9,7 +9,6 @@ use borrow.Fn.World
 use borrow.Fn.Kinds
 use denote.Triple.Clauses
 use Rattle.carried.specs.declared.Reader.{Reader}
-use Rattle.carried.specs.declared.Yielded.{Yielded}
 use Rattle.carried.specs.Carried.{yield_at, past_at}
 use Rattle.carried.specs.contracts.yield_at as yield-at-fn
 use Rattle.carried.proofs.yield_at.Kinds as yield-at-kinds
@@ -17,6 +16,9 @@ use Rattle.carried.proofs.yield_at.Reads as yield-at-reads
 use Rattle.carried.specs.contracts.past_at as past-at-fn
 use Rattle.carried.proofs.past_at.Kinds as past-at-kinds
 use Rattle.carried.proofs.past_at.Reads as past-at-reads
+use Rattle.std.proofs.Common.{Result, Option}
+use Rattle.text.specs.declared.Refusal.{Refusal}
+use Rattle.terms.specs.declared.Span.{Span}
 
 pub yield_at_only :
     (κs : Lifetimes.Lfts 1) (a : World.ArgsD yield-at-fn.signature κs)
@@ -47,7 +49,7 @@ module _ (q q' : Reader) where
   pub moved_only : (r : Reader) → (q.line ≡ r.line) × (q.at ≡ past_at r.line.now r.at) → (q'.line ≡ r.line) × (q'.at ≡ past_at r.line.now r.at) → q ≡ q'
   moved_only r p p' = told r.line (past_at r.line.now r.at) p p'
 
-module _ (y y' : Yielded) where
+module _ (y y' : Result (Option Span) Refusal) where
   pub next_only : (r : Reader) → y ≡ yield_at r.line.now r.at → y' ≡ yield_at r.line.now r.at → y ≡ y'
   next_only r p q = p ∙ sym q
 

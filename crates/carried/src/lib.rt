@@ -3,10 +3,10 @@
 #![tactic(auto)]
 
 ghost use Rattle.std.specs.Prelude.{◌≡◌};
-ghost use Rattle.carried.specs.Carried.{found_as, yield_at, past_at};
+ghost use Rattle.carried.specs.Carried.{yield_at, past_at};
 
-use terms::{Found, lexical, term_at};
-use text::Verdict;
+use terms::{Span, lexical, term_at};
+use text::Refusal;
 
 // The line, and the place from which the next term is looked for.
 #[derive(Clone, Copy)]
@@ -15,45 +15,22 @@ pub struct Reader<'a> {
     pub at: usize,
 }
 
-// The next term, none, or the line's refusal by rows 1 to 5.
-#[derive(Clone, Copy)]
-pub enum Yielded {
-    Term { start: usize, len: usize },
-    Nothing,
-    Refused { number: u8, place: usize },
-}
-
-fn found_as(f: Found) -> Yielded
-    ensures { result ≡ found_as f }
-{
-    match f {
-        Found::Term { start, len } => Yielded::Term { start, len },
-        Found::None => Yielded::Nothing,
-    }
-}
-
-// The work: what a line yields at a place.
-pub fn yield_at(line: &[u8], at: usize) -> Yielded
+// The work: what a line yields at a place, the next term or none; or the line's refusal by rows 1 to 5.
+pub fn yield_at(line: &[u8], at: usize) -> Result<Option<Span>, Refusal>
     ensures { result ≡ yield_at line.now at }
 {
-    match lexical(line) {
-        Verdict::Fine => found_as(term_at(line, at)),
-        Verdict::Flawed { number, place } => Yielded::Refused { number, place },
-    }
+    lexical(line)?;
+    Ok(term_at(line, at))
 }
 
 // The place past what a line yields at a place: the term's end, or the place itself where there is no term.
 pub fn past_at(line: &[u8], at: usize) -> usize
     ensures { result ≡ past_at line.now at }
 {
-    match yield_at(line, at) {
-        Yielded::Term { start, len } => start + len,
-        Yielded::Nothing => at,
-        Yielded::Refused {
-            number: _,
-            place: _,
-        } => at,
-    }
+    let Ok(Some(term)) = yield_at(line, at) else {
+        return at;
+    };
+    term.at + term.len
 }
 
 // A reader at the line's start.
@@ -64,7 +41,7 @@ pub fn new<'a>(line: &'a [u8]) -> Reader<'a>
 }
 
 // What the reader yields; it does not move.
-pub fn next<'a>(r: Reader<'a>) -> Yielded
+pub fn next<'a>(r: Reader<'a>) -> Result<Option<Span>, Refusal>
     ensures { result ≡ yield_at r.entry.line.now r.entry.at }
 {
     yield_at(r.line, r.at)
@@ -79,7 +56,7 @@ pub fn moved<'a>(r: Reader<'a>) -> Reader<'a>
 }
 
 // The first term of a line, for a caller with a plain slice.
-pub fn first(line: &[u8]) -> Yielded
+pub fn first(line: &[u8]) -> Result<Option<Span>, Refusal>
     ensures { result ≡ yield_at line.now 0 }
 {
     next(new(line))

@@ -1,13 +1,12 @@
 -- `carried::yield_at` meets its contract.
-use mathlib.Core.Path.{sym, ◌∙◌}
-use Rattle.carried.proofs.CarriedLaws.{yields_found, yields_flaw}
+use Rattle.std.proofs.Common.{rules}
+use Rattle.carried.specs.Carried.{yield_at}
 use Rattle.carried.proofs.yield_at.Goals as goal
 
-pub returns-in-Fine : goal.returns-in-Fine
-returns-in-Fine c =
-    let f = c in
-    yields_found _ _ f.term_at.result _ (sym f.in-Fine.is ∙ f.lexical.ensures) f.term_at.ensures
-    c.found_as.ensures
+pub returns : goal.returns
+unfolding yield_at
+returns c = rw (← c.lexical.ensures, c.in_ok-lexical.was, c.term_at.ensures)
 
-pub returns-in-Flawed : goal.returns-in-Flawed
-returns-in-Flawed c = yields_flaw _ _ _ _ (sym c.in-Flawed.is ∙ c.lexical.ensures)
+pub returns-in_err-lexical : goal.returns-in_err-lexical
+unfolding yield_at
+returns-in_err-lexical c = rw (← c.lexical.ensures, c.in_err-lexical.was) (search rules)
