@@ -8,18 +8,17 @@ use Rattle.text.specs.Bytes.{printable}
 use Rattle.text.specs.Lists.{run_len, walk}
 use Rattle.terms.specs.declared.Mode.{Mode}
 use Rattle.terms.specs.declared.Mode.TheVariants.{Out, OutGrave, In, InGrave}
-use Rattle.terms.specs.declared.Found.{Found}
-use Rattle.terms.specs.declared.Found.TheVariants as found
 use Rattle.terms.specs.Signs.{after, signs}
 use Rattle.terms.specs.Terms.{Term, terms_from, terms_of}
 use Rattle.terms.specs.Rows.{long_flaw, odd_flaw, end_mode, opens, opened_at, open_flaw, many_from, many_flaw, lexical_of}
-use Rattle.terms.specs.Scan.{is_space, gap_byte, term_len, found, start_at, term_at}
+use Rattle.terms.specs.Scan.{span, is_space, gap_byte, term_len, found, start_at, term_at}
 use Rattle.terms.proofs.NextTerm.{terms_some, terms_none}
 use Rattle.words.specs.Words.{lower, lowered}
 use Rattle.words.proofs.Folding.{lowered_length}
-use Rattle.reading.specs.declared.Span.{Span}
-use Rattle.reading.specs.Records.{span, part_at}
+use Rattle.terms.specs.declared.Span.{Span}
+use Rattle.reading.specs.Records.{part_at}
 use Rattle.reading.proofs.CaseBytes.{lower_byte, lower_printable, folded, lowered_drop, run_lowered}
+use Rattle.std.proofs.Common.{Option, Some, None}
 
 -- ---- a line in lower case is scanned as the line is: no byte that a scan looks for is a letter
 
@@ -97,7 +96,7 @@ term_in line p = record { start = p.at; text = signs Out (part_at line p) }
 
 module _ (a b : List ℕ) (folds : lowered a ≡ lowered b) where
   -- what a scan finds in the first from a place on, it finds in the second
-  same_term : (at : ℕ) (f : Found) → term_at a at ≡ f → f ≡ term_at b at
+  same_term : (at : ℕ) (f : Option Span) → term_at a at ≡ f → f ≡ term_at b at
   same_term at f p = sym p ∙ folded (λ l. term_at l at) (term_lowered at) a b folds
 
   -- the places of the terms from a place on, in both lines
@@ -110,21 +109,21 @@ module _ (a b : List ℕ) (folds : lowered a ≡ lowered b) where
   places_from : (at : ℕ) (ts : List Term) → terms_from at true (signs Out (drop at a)) ≡ ts → Spans at ts
   places_from at [] e = go (term_at a at) refl
     where
-      go : (f : Found) → term_at a at ≡ f → Spans at []
-      go found.None p = record { places = []; here = refl; there = terms_none b at (same_term at found.None p) }
-      go (found.Term i n) p = absurd (cons≢nil (sym (terms_some a at i n (sym p)) ∙ e))
+      go : (f : Option Span) → term_at a at ≡ f → Spans at []
+      go None p = record { places = []; here = refl; there = terms_none b at (same_term at None p) }
+      go (Some r) p = absurd (cons≢nil (sym (terms_some a at r.at r.len (sym p)) ∙ e))
   places_from at (t ∷ ts) e = go (term_at a at) refl (λ i. places_from i ts)
     where
-      go : (f : Found) → term_at a at ≡ f → ((i : ℕ) → terms_from i true (signs Out (drop i a)) ≡ ts → Spans i ts) → Spans at (t ∷ ts)
-      go found.None p ih = absurd (cons≢nil (sym (sym (terms_none a at (sym p)) ∙ e)))
-      go (found.Term i n) p ih =
-          let c = cons-eq-cons.0 (sym (terms_some a at i n (sym p)) ∙ e) in
-          let r = ih (i + n) c.1 in
-          let q = terms_some b at i n (same_term at (found.Term i n) p) in
+      go : (f : Option Span) → term_at a at ≡ f → ((i : ℕ) → terms_from i true (signs Out (drop i a)) ≡ ts → Spans i ts) → Spans at (t ∷ ts)
+      go None p ih = absurd (cons≢nil (sym (sym (terms_none a at (sym p)) ∙ e)))
+      go (Some y) p ih =
+          let c = cons-eq-cons.0 (sym (terms_some a at y.at y.len (sym p)) ∙ e) in
+          let r = ih (y.at + y.len) c.1 in
+          let q = terms_some b at y.at y.len (same_term at (Some (span y.at y.len)) p) in
           record {
-            places = span i n ∷ r.places;
-            here = ap (λ (x : Term). x ∷ ts) (sym c.0) ∙ ap (λ (z : List Term). term_in a (span i n) ∷ z) r.here;
-            there = q ∙ ap (λ (z : List Term). term_in b (span i n) ∷ z) r.there;
+            places = span y.at y.len ∷ r.places;
+            here = ap (λ (x : Term). x ∷ ts) (sym c.0) ∙ ap (λ (z : List Term). term_in a (span y.at y.len) ∷ z) r.here;
+            there = q ∙ ap (λ (z : List Term). term_in b (span y.at y.len) ∷ z) r.there;
           }
 
   -- BOTH LINES HAVE THEIR TERMS AT THE SAME PLACES

@@ -1,38 +1,36 @@
 -- The decision on a term, as the code finds it by what the layers below answer of the term's bytes. Assumes nothing.
-use Prim.Native.Nat.{ℕ, ◌-◌, ◌≤◌, ◌<◌}
+use Prim.Native.Nat.{ℕ, ◌≤◌, ◌<◌}
 use mathlib.Core.Path.{◌≡◌, refl, sym, ap, ◌∙◌}
 use mathlib.Core.List.{List, [], ◌∷◌}
 use mathlib.Core.Bool.{Bool, true, false, cond, not}
 use mathlib.Core.Option.{Option, none, some}
 use native.Mathlib.Omega.{arith}
-use lib.ListN.{length, take, drop, get_or}
+use lib.ListN.{length, drop, get_or}
 use borrow.Author.Tests.{le-leb, lt-leb}
 use Rattle.text.specs.Bytes.{bytes, same_bytes}
-use Rattle.text.proofs.Slices.{part_from}
 use Rattle.terms.specs.declared.Mode.TheVariants.{Out}
 use Rattle.terms.specs.Signs.{signs, raws, has_bare}
 use Rattle.terms.specs.Marks.{starts_bare}
 use Rattle.terms.proofs.SignBytes.{raws_signs}
-use Rattle.words.specs.declared.Known.{Known}
-use Rattle.words.specs.declared.Known.TheVariants.{Is, Unknown}
 use Rattle.words.specs.declared.Kind.{Kind}
 use Rattle.words.specs.declared.Kind.TheVariants.{Mere, Keep, Level, Place, Entries}
 use Rattle.words.specs.Tables.{known}
 use Rattle.words.specs.Words.{lower, lowered, names, find, long_names, short_names, verb_of, option_of, kind_of}
 use Rattle.support.specs.Table15.{allowed}
 use Rattle.forms.specs.declared.Where.{Where}
-use Rattle.forms.specs.declared.Where.TheVariants as where'
 use Rattle.forms.specs.Forms.{starts, Entry, is_keep, is_level, is_place, entries_of, Property, property_of, topic_of}
 use Rattle.forms.specs.Targets.{Target, session, path, target_of}
 use Rattle.forms.specs.Answers.{is_some, shape_of, where_of, topic_in, where_in}
 use Rattle.reading.specs.declared.Phase.TheVariants.{Options, Rest}
+use Rattle.reading.specs.declared.Shown.{Shown}
 use Rattle.reading.specs.declared.Shown.TheVariants as shown
-use Rattle.reading.specs.declared.Decided.{Decided}
-use Rattle.reading.specs.declared.Decided.TheVariants.{Takes, Refuses}
 use Rattle.reading.specs.Command.{argument_by, Argument, items, verb, option, argument, target, prop}
 use Rattle.reading.specs.Reading.{refuses, takes, or_no, is_help, new_option, decide_verb, decide_option, decide_argument, decide_target, decide_property, decide_after, decide_in}
 use Rattle.reading.specs.Cursor.{decided_of}
 use Rattle.reading.specs.Shown.{by_shape, argument_if}
+use Rattle.std.proofs.Common.{Some, None}
+use Rattle.std.proofs.Common as std
+use Rattle.std.proofs.Common.{Result, Ok, Err}
 
 -- does a term start with this bare byte?
 pub starts_bytes : (n : ℕ) (t : List ℕ) → starts_bare n t ≡ starts n (signs Out t)
@@ -41,9 +39,9 @@ starts_bytes n t = refl
 
 -- ---- the verb
 
-abbrev pub by_verb : Known → Decided
-by_verb (Is n) = Takes (shown.Verb n)
-by_verb Unknown = Refuses 6
+abbrev pub by_verb : std.Option ℕ → Result Shown ℕ
+by_verb (Some n) = Ok (shown.Verb n)
+by_verb None = Err 6
 
 verb_known : (o : Option ℕ) → by_verb (known o) ≡ decided_of (or_no 6 o verb)
 verb_known none = refl
@@ -55,15 +53,15 @@ verb_decided t = rw (raws_signs t) (verb_known (verb_of t))
 
 -- ---- an option
 
-abbrev pub by_option : ℕ → List Bool → Known → Decided
-by_option v seen (Is n) = cond (not (allowed v n)) (Refuses 20) (cond (get_or seen n false) (Refuses 8) (Takes (shown.Option n)))
-by_option v seen Unknown = Refuses 7
+abbrev pub by_option : ℕ → List Bool → std.Option ℕ → Result Shown ℕ
+by_option v seen (Some n) = cond (not (allowed v n)) (Err 20) (cond (get_or seen n false) (Err 8) (Ok (shown.Option n)))
+by_option v seen None = Err 7
 
 option_known : (v : ℕ) (seen : List Bool) (o : Option ℕ) → by_option v seen (known o) ≡ decided_of (new_option v seen o)
 option_known v seen none = refl
 option_known v seen (some n) = go (allowed v n) (get_or seen n false)
   where
-    go : (a x : Bool) → cond (not a) (Refuses 20) (cond x (Refuses 8) (Takes (shown.Option n))) ≡ decided_of (cond (not a) (refuses 20) (cond x (refuses 8) (takes (option n))))
+    go : (a x : Bool) → cond (not a) (Err 20) (cond x (Err 8) (Ok (shown.Option n))) ≡ decided_of (cond (not a) (refuses 20) (cond x (refuses 8) (takes (option n))))
     go true true = refl
     go true false = refl
     go false x = refl
@@ -73,13 +71,13 @@ unfolding decide_option
 option_decided v seen t = rw (raws_signs t) (option_known v seen (option_of (drop 1 t)))
 
 -- the name is what follows the first byte
-pub option_cite : (v : ℕ) (seen : List Bool) (t : List ℕ) (k : Known) → k ≡ known (option_of (take (length t - 1) (drop 1 t)))
+pub option_cite : (v : ℕ) (seen : List Bool) (t : List ℕ) (b : ℕ) (name : List ℕ) (k : std.Option ℕ) → t ≡ b ∷ name → k ≡ known (option_of name)
     → by_option v seen k ≡ decided_of (decide_option v seen (signs Out t))
-option_cite v seen t k e =
-    ap (by_option v seen) (e ∙ ap (λ (s : List ℕ). known (option_of s)) (part_from t 1)) ∙ option_decided v seen t
+option_cite v seen t b name k z e =
+    ap (by_option v seen) (e ∙ sym (ap (λ (s : List ℕ). known (option_of (drop 1 s))) z)) ∙ option_decided v seen t
 
 -- no name is empty
-pub option_empty : (v : ℕ) (seen : List Bool) (t : List ℕ) → length t ≡ 0 → Refuses 7 ≡ decided_of (decide_option v seen (signs Out t))
+pub option_empty : (v : ℕ) (seen : List Bool) (t : List ℕ) → length t ≡ 0 → Err 7 ≡ decided_of (decide_option v seen (signs Out t))
 unfolding decide_option signs raws option_of find long_names short_names names lowered lower bytes same_bytes
 option_empty v seen [] e = refl
 option_empty v seen (b ∷ t) e = absurd (omega arith)
@@ -113,16 +111,15 @@ pub argument_decided : (k : ℕ) (t : List ℕ) → starts_bare 45 t ≡ false �
 unfolding decide_argument
 argument_decided k t e = rw (sym (starts_bytes 45 t) ∙ e) (argument_of (kind_of k) k t)
 
-pub argument_dash : (k : ℕ) (t : List ℕ) → starts_bare 45 t ≡ true → Refuses 9 ≡ decided_of (decide_argument k (signs Out t))
+pub argument_dash : (k : ℕ) (t : List ℕ) → starts_bare 45 t ≡ true → Err 9 ≡ decided_of (decide_argument k (signs Out t))
 unfolding decide_argument
 argument_dash k t e = rw (sym (starts_bytes 45 t) ∙ e)
 
 -- ---- a target
 
-abbrev pub by_where : Where → Decided
-by_where where'.Session = Takes shown.Target
-by_where (where'.Path rooted segments) = Takes shown.Target
-by_where where'.No = Refuses 12
+abbrev pub by_where : std.Option Where → Result Shown ℕ
+by_where (Some w) = Ok shown.Target
+by_where None = Err 12
 
 target_where : (o : Option Target) → by_where (where_of o) ≡ decided_of (or_no 12 o target)
 target_where none = refl
@@ -140,7 +137,7 @@ property_shape none = refl
 property_shape (some p) = refl
 
 module _ (count : ℕ) (t : List ℕ) where
-  pub property_many : (help : Bool) → 32 ≤ count → Refuses 14 ≡ decided_of (decide_property help count (signs Out t))
+  pub property_many : (help : Bool) → 32 ≤ count → Err 14 ≡ decided_of (decide_property help count (signs Out t))
   unfolding decide_property
   property_many help h = rw (le-leb 32 count h)
 

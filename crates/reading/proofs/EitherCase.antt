@@ -5,7 +5,6 @@ use mathlib.Core.List.{List, [], ◌∷◌, map, cons-eq-cons}
 use mathlib.Core.Bool.{true, ◌&&◌, ◌||◌}
 use mathlib.Core.Option.{some-injective}
 use lib.ListN.{length, drop}
-use Rattle.text.specs.declared.Verdict.{Verdict}
 use Rattle.text.specs.Bytes.{same_bytes}
 use Rattle.text.specs.Lists.{all_of}
 use Rattle.text.proofs.Tests.{and_l, and_r, and_in}
@@ -17,7 +16,7 @@ use Rattle.terms.proofs.SignBytes.{raws_signs}
 use Rattle.words.specs.Words.{lowered}
 use Rattle.words.proofs.Folding.{lowered_length}
 use Rattle.forms.proofs.PropertyLaws.{taken_part}
-use Rattle.reading.specs.declared.Span.{Span}
+use Rattle.terms.specs.declared.Span.{Span}
 use Rattle.reading.specs.declared.State.{State}
 use Rattle.reading.specs.Command.{Item}
 use Rattle.reading.specs.Reading.{begin, takes, next, Part, Reading, refusal, read, adding, part_of, unless, walk_terms, reading_of, command_in, command_of}
@@ -28,6 +27,8 @@ use Rattle.reading.proofs.CaseBytes.{folded, part_folds}
 use Rattle.reading.proofs.CaseTerms.{term_in, same_places, same_rows}
 use Rattle.reading.proofs.CaseDecisions.{taken_alike}
 use Rattle.reading.proofs.CaseLetters.{taken_same}
+use Rattle.std.proofs.Common.{Result}
+use Rattle.text.specs.declared.Refusal.{Refusal}
 
 abbrev item_of : Part → Item
 item_of p = p.item
@@ -100,7 +101,7 @@ module _ (a b : List ℕ) (ps : List Part) (is : reading_of a ≡ read ps) (fold
   pub either_case : exact_in ps a b ≡ true → reading_of b ≡ read ps
   unfolding reading_of
   either_case h =
-      ap (λ (v : Verdict). unless v (walk_terms (length b) begin (terms_of b))) (sym (same_rows a b folds) ∙ (read_walk a ps is).0)
+      ap (λ (v : Result Unit Refusal). unless v (walk_terms (length b) begin (terms_of b))) (sym (same_rows a b folds) ∙ (read_walk a ps is).0)
       ∙ walk_there a b folds
       ∙ walk_alike a b folds (length a) begin (same_places a b folds).places ps (walk_here a b folds ps is) h
 

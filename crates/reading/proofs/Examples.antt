@@ -5,8 +5,7 @@ use mathlib.Core.List.{List, [], ◌∷◌, map}
 use mathlib.Core.Bool.{true, false}
 use lib.ListN.{set, replicate}
 use mathlib.Core.Path.{◌≡◌, refl}
-use Rattle.text.specs.declared.Answer.TheVariants.{Refused}
-use Rattle.text.specs.Room.{wrote, fitted, filled}
+use Rattle.text.specs.Room.{wrote, fitted, filled, refusal_at}
 use Rattle.text.specs.Bytes.{bytes, one_of, same_bytes, is_word}
 use Rattle.text.specs.Lists.{all_of, any_of, up_to, past, run_len, parts, walk, every}
 use Rattle.text.specs.Decimal.{value_from, is_decimal}
@@ -25,11 +24,13 @@ use Rattle.reach.specs.Roads.{start_step, part_step, tag_end, tag_step, number_s
 use Rattle.reach.specs.Stages.{free_step, comma_step, is_name_byte, name_step, text_on, value_step, said_step, in_text, items_next, items_on, in_items}
 use Rattle.reach.specs.Reach.{reach_of}
 use Rattle.reading.specs.Reading.{state, refuses, decide_verb, decide_option, decide_argument, decide_target, decide_property, decide_after, decide, walk_terms, reading_of}
-use Rattle.reading.specs.Records.{span, records_of, listed_in, refusal_record, cut_record, target_span, target_in, target_part}
+use Rattle.terms.specs.Scan.{span}
+use Rattle.reading.specs.Records.{records_of, listed_in, refusal_record, cut_record, target_span, target_in, target_part}
 use Rattle.reading.specs.Cursor.{first_cursor}
 use Rattle.reading.specs.declared.Phase.TheVariants.{First, Options}
 use Rattle.reading.specs.Order.{holds, order, is_first_of}
 use Rattle.reading.specs.Lines.{lines, lines_of_b}
+use Rattle.std.proofs.Common.{Err}
 
 -- of each line with its answer: the line's records are that answer
 pub lines_answers : map (λ (l : String × List ℕ). listed_in (reading_of (bytes l.0))) lines ≡ map (λ (l : String × List ℕ). l.1) lines
@@ -65,6 +66,6 @@ no_target = (refl, refl, refl)
 
 -- the records that a lister makes, in room of one byte too few and of the size
 pub no_room :
-    (fitted 3 (refusal_record 4 6) ≡ Refused 19 0) × (filled (1 ∷ 2 ∷ 3 ∷ []) (refusal_record 4 6) ≡ 1 ∷ 2 ∷ 3 ∷ []) × (fitted 0 cut_record ≡ Refused 19 0) × (filled (1 ∷ []) cut_record ≡ 7 ∷ [])
+    (fitted 3 (refusal_record 4 6) ≡ Err (refusal_at 19 0)) × (filled (1 ∷ 2 ∷ 3 ∷ []) (refusal_record 4 6) ≡ 1 ∷ 2 ∷ 3 ∷ []) × (fitted 0 cut_record ≡ Err (refusal_at 19 0)) × (filled (1 ∷ []) cut_record ≡ 7 ∷ [])
 unfolding fitted filled wrote
 no_room = (refl, refl, refl, refl)

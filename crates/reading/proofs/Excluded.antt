@@ -8,8 +8,6 @@ use mathlib.Core.Option.{Option, none, some, some-injective}
 use native.Mathlib.Omega.{arith}
 use lib.ListN.{length, drop, get_or}
 use borrow.Author.Tests.{not-true}
-use Rattle.text.specs.declared.Verdict.{Verdict}
-use Rattle.text.specs.declared.Verdict.TheVariants.{Fine, Flawed}
 use Rattle.text.specs.Lists.{all_of}
 use Rattle.text.proofs.Tests.{and_l, and_r, no_case}
 use Rattle.text.proofs.Options.{none_some}
@@ -32,6 +30,10 @@ use Rattle.reading.specs.Excluded.{is_had_by, verb_number, options_had, Excluded
 use Rattle.reading.proofs.TakenCases.{taken_case}
 use Rattle.reading.proofs.PartOrder.{ended_nil, walk_taken, read_walk}
 use Rattle.reading.proofs.Order.{first_row, term_exactly, line_exactly}
+use Rattle.std.proofs.Common.{Result, Ok, Err}
+use Rattle.text.specs.declared.Refusal.{Refusal}
+use Rattle.text.proofs.Refusals.{same_number}
+use Rattle.text.specs.Room.{refusal_at}
 
 -- ---- one part
 
@@ -135,15 +137,15 @@ first_verb t ts u h = go (decide begin t.text) refl
         b.is_verb ∙ ap some (sym (past_verb_lem (next begin i) u ts (rw e at h) b.still ∙ b.same))
 
 -- no row of 1 to 5 is 20
-not_lexical : (line : List ℕ) (p : ℕ) → lexical_of line ≡ Flawed 20 p → ⊥
+not_lexical : (line : List ℕ) (p : ℕ) → lexical_of line ≡ Err (refusal_at 20 p) → ⊥
 not_lexical line p h = go (rows.judged line)
   where
     go : rows.Case line → ⊥
-    go (rows.is1 r) = let z = sym ((rows.row_1 line _).0 r) ∙ h in let y : ◌≡◌ {A = ℕ} 1 20 = cc in omega arith
-    go (rows.is2 r) = let z = sym ((rows.row_2 line _).0 r) ∙ h in let y : ◌≡◌ {A = ℕ} 2 20 = cc in omega arith
-    go (rows.is3 r) = let z = sym ((rows.row_3 line _).0 r) ∙ h in let y : ◌≡◌ {A = ℕ} 3 20 = cc in omega arith
-    go (rows.is4 r) = let z = sym ((rows.row_4 line _).0 r) ∙ h in let y : ◌≡◌ {A = ℕ} 4 20 = cc in omega arith
-    go (rows.is5 r) = let z = sym ((rows.row_5 line _).0 r) ∙ h in let y : ◌≡◌ {A = ℕ} 5 20 = cc in omega arith
+    go (rows.is1 r) = let z = sym ((rows.row_1 line _).0 r) ∙ h in let y : ◌≡◌ {A = ℕ} 1 20 = same_number z in omega arith
+    go (rows.is2 r) = let z = sym ((rows.row_2 line _).0 r) ∙ h in let y : ◌≡◌ {A = ℕ} 2 20 = same_number z in omega arith
+    go (rows.is3 r) = let z = sym ((rows.row_3 line _).0 r) ∙ h in let y : ◌≡◌ {A = ℕ} 3 20 = same_number z in omega arith
+    go (rows.is4 r) = let z = sym ((rows.row_4 line _).0 r) ∙ h in let y : ◌≡◌ {A = ℕ} 4 20 = same_number z in omega arith
+    go (rows.is5 r) = let z = sym ((rows.row_5 line _).0 r) ∙ h in let y : ◌≡◌ {A = ℕ} 5 20 = same_number z in omega arith
     go (rows.is_fine r) = let z = sym ((rows.no_row line).0 r) ∙ h in let y : ◌≡◌ {A = ℕ} 0 1 = cc in omega arith
 
 forth : (line : List ℕ) (p : ℕ) → Refused line 20 p → Excluded line p
@@ -254,6 +256,6 @@ pub otherwise_same : (line : List ℕ) → is_twenty (reading_of line) ≡ false
 unfolding reading_of reading_free
 otherwise_same line h = go (lexical_of line) refl
   where
-    go : (v : Verdict) → lexical_of line ≡ v → reading_of line ≡ reading_free line
-    go Fine e = rw e (walk_else (length line) begin (terms_of line) (rw e at h))
-    go (Flawed k p) e = rw e
+    go : (v : Result Unit Refusal) → lexical_of line ≡ v → reading_of line ≡ reading_free line
+    go (Ok u) e = rw e (walk_else (length line) begin (terms_of line) (rw e at h))
+    go (Err r) e = rw e

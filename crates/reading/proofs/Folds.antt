@@ -6,9 +6,6 @@ use mathlib.Core.Bool.{true, false, cond}
 use native.Mathlib.Omega.{arith}
 use lib.ListN.{length, length-append}
 use lib.Seq.{sets}
-use Rattle.text.specs.declared.Answer.TheVariants as answer
-use Rattle.text.specs.declared.Verdict.{Verdict}
-use Rattle.text.specs.declared.Verdict.TheVariants.{Fine, Flawed}
 use Rattle.text.specs.Lists.{is_nil}
 use Rattle.text.proofs.Tests.{no_case}
 use Rattle.text.proofs.Writes.{fitted_room, fitted_none, filled_none, filled_sets}
@@ -19,12 +16,17 @@ use Rattle.reading.specs.declared.Cursor.{Cursor}
 use Rattle.reading.specs.declared.Shown.{Shown}
 use Rattle.reading.specs.Command.{Item, verb, option, argument, target, prop, shown_of}
 use Rattle.reading.specs.Reading.{Decision, refuses, takes, decide, next, begin, Part, Reading, refusal, read, adding, place_of, going, part_of, walk_terms, reading_of}
-use Rattle.reading.specs.Records.{record_of, records_of, read_records, answer_in, room_in, span, target_span, target_in}
+use Rattle.terms.specs.Scan.{span}
+use Rattle.reading.specs.Records.{record_of, records_of, read_records, answer_in, room_in, target_span, target_in}
 use Rattle.reading.specs.Cursor.{left, first_cursor}
 use Rattle.reading.specs.Shown.{verdict_in, needed_in, records_in, total_from, bytes_in, is_target}
 use Rattle.reading.proofs.Steps.{Stepped}
 use Rattle.terms.proofs.RowLaws.{no_row}
 use Rattle.terms.proofs.ScanLaws.{long_line}
+use Rattle.std.proofs.Common.{Result, Ok, Err}
+use Rattle.text.specs.declared.Refusal.{Refusal}
+use Rattle.text.proofs.Refusals.{same_number, same_place}
+use Rattle.text.specs.Room.{refusal_at}
 
 -- ---- one part more
 
@@ -38,9 +40,9 @@ module _ (x : Shown) (a n : ℕ) (i : Item) (shows : shown_of i ≡ x) where
   add_total k (read ps) =
       let l = length-append (record_of (shown_of i) a n) (records_of ps) in
       let m = ap length record_is in
-      ap answer.Wrote (omega arith)
+      ap Ok (omega arith)
 
-  add_records : (r : Reading) → verdict_in r ≡ Fine → records_in (adding (record { start = a; len = n; item = i }) r) ≡ record_of x a n ++ records_in r
+  add_records : (r : Reading) → verdict_in r ≡ Ok tt → records_in (adding (record { start = a; len = n; item = i }) r) ≡ record_of x a n ++ records_in r
   unfolding records_of
   add_records (refusal j p) e = let z : ◌≡◌ {A = ℕ} 0 1 = cc in absurd (omega arith)
   add_records (read ps) e = ap (λ (t : List ℕ). t ++ records_of ps) record_is
@@ -49,7 +51,7 @@ module _ (x : Shown) (a n : ℕ) (i : Item) (shows : shown_of i ≡ x) where
   add_verdict (refusal j p) = refl
   add_verdict (read ps) = refl
 
-  add_target : (r : Reading) → verdict_in r ≡ Fine → target_in (adding (record { start = a; len = n; item = i }) r) ≡ cond (is_target x) (span a n) (target_in r)
+  add_target : (r : Reading) → verdict_in r ≡ Ok tt → target_in (adding (record { start = a; len = n; item = i }) r) ≡ cond (is_target x) (span a n) (target_in r)
   unfolding target_span
   add_target (refusal j p) e = let z : ◌≡◌ {A = ℕ} 0 1 = cc in absurd (omega arith)
   add_target (read ps) e = go i shows
@@ -68,36 +70,36 @@ module _ (line : List ℕ) (c : Cursor) (x : Shown) (a n : ℕ) (after : Cursor)
   pub verdict_part : verdict_in (left line c) ≡ verdict_in (left line after)
   verdict_part = ap verdict_in s.leaves ∙ add_verdict x a n s.item s.shows (left line after)
 
-  pub records_part : verdict_in (left line c) ≡ Fine → records_in (left line c) ≡ record_of x a n ++ records_in (left line after)
+  pub records_part : verdict_in (left line c) ≡ Ok tt → records_in (left line c) ≡ record_of x a n ++ records_in (left line after)
   records_part e = ap records_in s.leaves ∙ add_records x a n s.item s.shows (left line after) (sym verdict_part ∙ e)
 
-  pub target_part_lem : verdict_in (left line c) ≡ Fine → target_in (left line c) ≡ cond (is_target x) (span a n) (target_in (left line after))
+  pub target_part_lem : verdict_in (left line c) ≡ Ok tt → target_in (left line c) ≡ cond (is_target x) (span a n) (target_in (left line after))
   target_part_lem e = ap target_in s.leaves ∙ add_target x a n s.item s.shows (left line after) (sym verdict_part ∙ e)
 
 -- a refusal is no reading that is fine
-pub refused_fine : {P : Type 0} (r : Reading) (k p : ℕ) → r ≡ refusal k p → verdict_in r ≡ Fine → P
+pub refused_fine : {P : Type 0} (r : Reading) (k p : ℕ) → r ≡ refusal k p → verdict_in r ≡ Ok tt → P
 refused_fine r k p e f = absurd (let z : ◌≡◌ {A = ℕ} 0 1 = cc (ap verdict_in e) in omega arith)
 
 -- ---- a whole line
 
 module _ (line : List ℕ) where
-  pub fine_left : lexical_of line ≡ Fine → reading_of line ≡ left line first_cursor
+  pub fine_left : lexical_of line ≡ Ok tt → reading_of line ≡ left line first_cursor
   unfolding reading_of left terms_of
   fine_left e = rw e
 
-  pub flawed_left : (k p : ℕ) → lexical_of line ≡ Flawed k p → reading_of line ≡ refusal k p
+  pub flawed_left : (k p : ℕ) → lexical_of line ≡ Err (refusal_at k p) → reading_of line ≡ refusal k p
   unfolding reading_of
   flawed_left k p e = rw e
 
-  pub fine_lexical : verdict_in (reading_of line) ≡ Fine → lexical_of line ≡ Fine
+  pub fine_lexical : verdict_in (reading_of line) ≡ Ok tt → lexical_of line ≡ Ok tt
   unfolding reading_of
   fine_lexical e = go (lexical_of line) refl
     where
-      go : (v : Verdict) → lexical_of line ≡ v → v ≡ Fine
-      go Fine h = refl
-      go (Flawed k p) h = rw h at e
+      go : (v : Result Unit Refusal) → lexical_of line ≡ v → v ≡ Ok tt
+      go (Ok u) h = refl
+      go (Err r) h = rw h at e
 
-  pub fine_short : lexical_of line ≡ Fine → length line ≤ 1024
+  pub fine_short : lexical_of line ≡ Ok tt → length line ≤ 1024
   fine_short e = ((no_row line).1 e).short
 
   -- a line over 1,024 bytes is refused as 1, whatever its text
@@ -131,7 +133,7 @@ module _ (line : List ℕ) (e : is_nil (terms_of line) ≡ false) where
   unfolding left terms_of
   total_needed =
       some_part (length line) begin (terms_of line) e (λ r. total_from 0 r ≡ needed_in r) (λ k p. refl)
-      (λ p ps. ap answer.Wrote (omega arith))
+      (λ p ps. ap Ok (omega arith))
 
   pub bytes_records : records_in (left line first_cursor) ≡ bytes_in (left line first_cursor)
   unfolding left terms_of
@@ -139,37 +141,37 @@ module _ (line : List ℕ) (e : is_nil (terms_of line) ≡ false) where
 
 -- ---- what a line needs, and what is answered
 
-pub needed_refused : (r : Reading) (k p : ℕ) → answer.Refused k p ≡ needed_in r → r ≡ refusal k p
-needed_refused (refusal j q) k p e = cc
+pub needed_refused : (r : Reading) (k p : ℕ) → Err (refusal_at k p) ≡ needed_in r → r ≡ refusal k p
+needed_refused (refusal j q) k p e = sym (rw (same_number e, same_place e))
 needed_refused (read ps) k p e = let z : ◌≡◌ {A = ℕ} 0 1 = cc in absurd (omega arith)
 
-pub needed_fine : (r : Reading) (n : ℕ) → answer.Wrote n ≡ needed_in r → verdict_in r ≡ Fine
+pub needed_fine : (r : Reading) (n : ℕ) → Ok n ≡ needed_in r → verdict_in r ≡ Ok tt
 needed_fine (refusal j q) n e = let z : ◌≡◌ {A = ℕ} 0 1 = cc in absurd (omega arith)
 needed_fine (read ps) n e = refl
 
-pub needed_length : (r : Reading) (n : ℕ) → answer.Wrote n ≡ needed_in r → n ≡ length (bytes_in r)
+pub needed_length : (r : Reading) (n : ℕ) → Ok n ≡ needed_in r → n ≡ length (bytes_in r)
 needed_length (refusal j q) n e = let z : ◌≡◌ {A = ℕ} 0 1 = cc in absurd (omega arith)
 needed_length (read ps) n e = cc
 
-module _ (r : Reading) (n : ℕ) (room : List ℕ) (e : answer.Wrote n ≡ needed_in r) where
-  pub read_none : length room < n → (answer.Refused 19 0 ≡ answer_in (length room) r) × (room ≡ room_in room r)
+module _ (r : Reading) (n : ℕ) (room : List ℕ) (e : Ok n ≡ needed_in r) where
+  pub read_none : length room < n → (Err (refusal_at 19 0) ≡ answer_in (length room) r) × (room ≡ room_in room r)
   read_none h = go r e
     where
-      go : (q : Reading) → answer.Wrote n ≡ needed_in q → (answer.Refused 19 0 ≡ answer_in (length room) q) × (room ≡ room_in room q)
+      go : (q : Reading) → Ok n ≡ needed_in q → (Err (refusal_at 19 0) ≡ answer_in (length room) q) × (room ≡ room_in room q)
       go (refusal j p) f = let z : ◌≡◌ {A = ℕ} 0 1 = cc in absurd (omega arith)
       go (read ps) f =
           let m : n ≡ length (read_records ps) = cc in
           (sym (fitted_none (length room) (read_records ps) (omega arith)), sym (filled_none room (read_records ps) (omega arith)))
 
-  pub read_all : n ≤ length room → (now : List ℕ) → now ≡ sets room 0 (bytes_in r) → (answer.Wrote n ≡ answer_in (length room) r) × (now ≡ room_in room r)
+  pub read_all : n ≤ length room → (now : List ℕ) → now ≡ sets room 0 (bytes_in r) → (Ok n ≡ answer_in (length room) r) × (now ≡ room_in room r)
   read_all h now w = go r e w
     where
-      go : (q : Reading) → answer.Wrote n ≡ needed_in q → now ≡ sets room 0 (bytes_in q) → (answer.Wrote n ≡ answer_in (length room) q) × (now ≡ room_in room q)
+      go : (q : Reading) → Ok n ≡ needed_in q → now ≡ sets room 0 (bytes_in q) → (Ok n ≡ answer_in (length room) q) × (now ≡ room_in room q)
       go (refusal j p) f v = let z : ◌≡◌ {A = ℕ} 0 1 = cc in absurd (omega arith)
       go (read ps) f v =
           let m : n ≡ length (read_records ps) = cc in
-          (ap answer.Wrote m ∙ sym (fitted_room (length room) (read_records ps) (omega arith)), v ∙ filled_sets room (read_records ps) (omega arith))
+          (ap Ok m ∙ sym (fitted_room (length room) (read_records ps) (omega arith)), v ∙ filled_sets room (read_records ps) (omega arith))
 
-pub verdict_refused : (r : Reading) (k p : ℕ) → Flawed k p ≡ verdict_in r → r ≡ refusal k p
-verdict_refused (refusal j q) k p e = cc
+pub verdict_refused : (r : Reading) (k p : ℕ) → Err (refusal_at k p) ≡ verdict_in r → r ≡ refusal k p
+verdict_refused (refusal j q) k p e = sym (rw (same_number e, same_place e))
 verdict_refused (read ps) k p e = let z : ◌≡◌ {A = ℕ} 0 1 = cc in absurd (omega arith)

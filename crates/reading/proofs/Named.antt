@@ -20,10 +20,11 @@ use Rattle.forms.specs.Forms.{starts, Said, alone, equals, matches, Property, sa
 use Rattle.forms.specs.Answers.{operator_of}
 use Rattle.reading.specs.declared.Phase.{Phase}
 use Rattle.reading.specs.declared.State.{State}
-use Rattle.reading.specs.declared.Span.{Span}
+use Rattle.terms.specs.declared.Span.{Span}
 use Rattle.reading.specs.Command.{Item, option, prop, shown_of}
 use Rattle.reading.specs.Reading.{begin, is_help, takes, decide_in, decide, next, Part, read, part_of, walk_terms, reading_of}
-use Rattle.reading.specs.Records.{span, option_fields, value_span, fields_of}
+use Rattle.terms.specs.Scan.{span}
+use Rattle.reading.specs.Records.{option_fields, value_span, fields_of}
 use Rattle.reading.specs.Inside.{parts_in_order, spans_in, spans_of, is_within, names_itself, is_inside}
 use Rattle.reading.proofs.TakenCases.{taken_case}
 use Rattle.reading.proofs.PartOrder.{ended_nil, walk_taken, read_walk, parts_in_order_lem, bounds, order_ends}

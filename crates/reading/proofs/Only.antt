@@ -1,6 +1,7 @@
 -- No second result of a public function fits its contract: answers, and the room at exit, are determined by what went in.
 -- Stated on each contract's own reading, so that it cannot drift from the source.
-use mathlib.Core.Path.{◌≡◌, sym, ◌∙◌}
+use mathlib.Core.Path.{◌≡◌, sym, ap, ◌∙◌}
+use Rattle.reading.specs.Cursor.{Step}
 use contract.Lifetimes
 use borrow.Fn.World
 use borrow.Fn.Kinds
@@ -39,12 +40,12 @@ pub begin_only :
 begin_only κs a r r' s s' p q = p ∙ sym q
 
 pub next_only :
-    (κs : Lifetimes.Lfts 1) (a : World.ArgsD next-fn.signature κs)
+    (κs : Lifetimes.Lfts 2) (a : World.ArgsD next-fn.signature κs)
     (r r' : World.ResD next-fn.signature κs)
-    (s s' : Clauses.AtExit (Kinds.ended_of 1 next-kinds.ps next-kinds.r) κs)
+    (s s' : Clauses.AtExit (Kinds.ended_of 2 next-kinds.ps next-kinds.r) κs)
     → next-reads.Post κs a r s → next-reads.Post κs a r' s'
-    → r ≡ r'
-next_only κs a r r' s s' p q = p ∙ sym q
+    → (r ≡ r') × (s.0.now ≡ s'.0.now)
+next_only κs a r r' s s' p q = let e = p ∙ sym q in (ap (λ (t : Step). t.offer) e, ap (λ (t : Step). t.next) e)
 
 pub verdict_only :
     (κs : Lifetimes.Lfts 1) (a : World.ArgsD verdict-fn.signature κs)

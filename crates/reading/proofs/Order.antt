@@ -8,8 +8,6 @@ use native.Mathlib.Omega.{arith}
 use lib.ListN.{length, drop, get_or}
 use lib.Dec.{eqb, leb}
 use borrow.Author.Tests.{eqb-true, eq-eqb, not-true}
-use Rattle.text.specs.declared.Verdict.{Verdict}
-use Rattle.text.specs.declared.Verdict.TheVariants.{Fine, Flawed}
 use Rattle.text.proofs.Tests.{and_l, and_r, no_case}
 use Rattle.terms.specs.Signs.{Sign, raws}
 use Rattle.terms.specs.Terms.{Term, terms_of}
@@ -30,6 +28,9 @@ use Rattle.reading.specs.declared.State.{State}
 use Rattle.reading.specs.Command.{argument_by, Item, verb, option, argument, target, prop}
 use Rattle.reading.specs.Reading.{begin, Decision, refuses, takes, or_no, is_help, new_option, decide_verb, decide_option, decide_argument, decide_target, decide_property, decide_after, decide_in, decide, next, Part, Reading, refusal, read, adding, ended, form_asked, past_start, place_of, part_of, walk_terms, reading_of}
 use Rattle.reading.specs.Order.{is_seen, is_excluded, is_waits, holds_in, holds, order, is_first_of, state_past, Placed, Refused, by_line, by_term, by_end}
+use Rattle.std.proofs.Common.{Result, Ok, Err}
+use Rattle.text.specs.declared.Refusal.{Refusal}
+use Rattle.text.specs.Room.{refusal_at}
 
 -- ---- the first row of a list that holds
 
@@ -241,13 +242,13 @@ forth : (line : List ℕ) (k p : ℕ) → reading_of line ≡ refusal k p → Re
 unfolding reading_of
 forth line k p h = go (lexical_of line) refl
   where
-    on : lexical_of line ≡ Fine → Stops (length line) begin (terms_of line) k p → Refused line k p
+    on : lexical_of line ≡ Ok tt → Stops (length line) begin (terms_of line) k p → Refused line k p
     on f (term b t a u e q g d) = by_term b t a u f e q (placed (form_asked u.phase u.verb k) t p g) ((term_exactly u t.text k).0 d)
     on f (over u q w x y) = by_end u f q w x y
 
-    go : (v : Verdict) → lexical_of line ≡ v → Refused line k p
-    go Fine e = on e (stops (length line) begin (terms_of line) k p (rw e at h))
-    go (Flawed j q) e = let z : Flawed j q ≡ Flawed k p = cc (rw e at h) in by_line (e ∙ z)
+    go : (v : Result Unit Refusal) → lexical_of line ≡ v → Refused line k p
+    go (Ok u) e = on e (stops (length line) begin (terms_of line) k p (rw e at h))
+    go (Err r) e = let z : Err (refusal_at r.number r.place) ≡ Err (refusal_at k p) = cc (rw e at h) in by_line (e ∙ z)
 
 back : (line : List ℕ) (k p : ℕ) → Refused line k p → reading_of line ≡ refusal k p
 unfolding reading_of

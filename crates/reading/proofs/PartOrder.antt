@@ -7,8 +7,6 @@ use native.Mathlib.Omega.{arith}
 use lib.ListN.{length}
 use lib.Dec.{leb, ltb}
 use borrow.Author.Tests.{leb-true, ltb-true}
-use Rattle.text.specs.declared.Verdict.{Verdict}
-use Rattle.text.specs.declared.Verdict.TheVariants.{Fine, Flawed}
 use Rattle.text.proofs.Tests.{and_l, and_r}
 use Rattle.terms.specs.Terms.{Term, terms_of}
 use Rattle.terms.specs.Going.{size_of, in_order}
@@ -19,8 +17,11 @@ use Rattle.reading.specs.declared.Phase.TheVariants.{First, Options, Waits, Rest
 use Rattle.reading.specs.declared.State.{State}
 use Rattle.reading.specs.Command.{Item, verb, option, argument, target, prop}
 use Rattle.reading.specs.Reading.{begin, Decision, refuses, takes, decide, next, Part, Reading, refusal, read, adding, ended, part_of, walk_terms, reading_of}
-use Rattle.reading.specs.Records.{target_or, target_span, target_in, span}
+use Rattle.terms.specs.Scan.{span}
+use Rattle.reading.specs.Records.{target_or, target_span, target_in}
 use Rattle.reading.specs.Inside.{parts_in_order}
+use Rattle.std.proofs.Common.{Result, Ok, Err}
+use Rattle.text.specs.declared.Refusal.{Refusal}
 
 -- the parts of a reading that was not refused, term by term
 pub ended_nil : (p : Phase) (n : ℕ) (ps : List Part) → ended p n ≡ read ps → ps ≡ []
@@ -59,13 +60,13 @@ walk_order n s (t ∷ ts) ps from end o h =
     rw k.parts (simp (and_l (leb from t.start) (ltb 0 (size_of t) && in_order (t.start + size_of t) end ts) o, and_l (ltb 0 (size_of t)) (in_order (t.start + size_of t) end ts) r) q)
 
 -- a reading that was not refused comes from the walk over the line's terms
-pub read_walk : (line : List ℕ) (ps : List Part) → reading_of line ≡ read ps → (lexical_of line ≡ Fine) × (walk_terms (length line) begin (terms_of line) ≡ read ps)
+pub read_walk : (line : List ℕ) (ps : List Part) → reading_of line ≡ read ps → (lexical_of line ≡ Ok tt) × (walk_terms (length line) begin (terms_of line) ≡ read ps)
 unfolding reading_of
 read_walk line ps h = go (lexical_of line) refl
   where
-    go : (v : Verdict) → lexical_of line ≡ v → (lexical_of line ≡ Fine) × (walk_terms (length line) begin (terms_of line) ≡ read ps)
-    go Fine e = (e, rw e at h)
-    go (Flawed n p) e = let z : ◌≡◌ {A = ℕ} 0 1 = cc (rw e at h) in absurd (omega arith)
+    go : (v : Result Unit Refusal) → lexical_of line ≡ v → (lexical_of line ≡ Ok tt) × (walk_terms (length line) begin (terms_of line) ≡ read ps)
+    go (Ok u) e = (e, rw e at h)
+    go (Err r) e = let z : ◌≡◌ {A = ℕ} 0 1 = cc (rw e at h) in absurd (omega arith)
 
 -- THE PARTS STAND IN LINE ORDER
 pub parts_in_order_lem : (line : List ℕ) (ps : List Part) → reading_of line ≡ read ps → parts_in_order 0 (length line) ps ≡ true

@@ -6,7 +6,6 @@ use mathlib.Core.Bool.{Bool, true, false}
 use mathlib.Core.Option.{some}
 use native.Mathlib.Omega.{arith}
 use lib.ListN.{length, drop, get_or, set, length-set, length-append}
-use Rattle.text.specs.declared.Answer.TheVariants.{Wrote}
 use Rattle.text.proofs.Tests.{no_case}
 use Rattle.terms.specs.Signs.{Sign, raws}
 use Rattle.terms.specs.Terms.{Term, terms_of}
@@ -24,6 +23,7 @@ use Rattle.reading.specs.Records.{bytes_of, option_fields, record_of, records_of
 use Rattle.reading.specs.Shown.{needed_in}
 use Rattle.reading.proofs.PartOrder.{ended_nil, walk_taken, read_walk}
 use Rattle.reading.proofs.TakenCases.{taken_case}
+use Rattle.std.proofs.Common.{Ok}
 
 -- options that may still be given
 free : List Bool → ℕ
@@ -130,7 +130,7 @@ at_most_399 line [] h = omega arith
 at_most_399 line (p ∷ ps) h = records_most line (p ∷ ps) h
 
 -- so does what a line is found to need
-pub needed_most : (line : List ℕ) (n : ℕ) → Wrote n ≡ needed_in (reading_of line) → n ≤ 399
+pub needed_most : (line : List ℕ) (n : ℕ) → Ok n ≡ needed_in (reading_of line) → n ≤ 399
 needed_most line n e = go (reading_of line) refl
   where
     go : (r : Reading) → reading_of line ≡ r → n ≤ 399

@@ -9,33 +9,37 @@ use native.Mathlib.Omega.{arith}
 use lib.ListN.{length, take, drop}
 use lib.Dec.{leb}
 use borrow.Author.Tests.{leb-true}
-use Rattle.text.specs.Lists.{all_of}
+use Rattle.text.specs.Lists.{all_of, is_nil}
 use Rattle.text.specs.Bytes.{is_letter, is_word}
 use Rattle.text.proofs.Slices.{part_from, part_between}
 use Rattle.text.proofs.Tests.{and_r}
 use Rattle.terms.specs.declared.Mode.TheVariants.{Out}
-use Rattle.terms.specs.declared.Found.{Found}
-use Rattle.terms.specs.declared.Found.TheVariants as found
 use Rattle.terms.specs.Signs.{Sign, signs}
-use Rattle.terms.specs.Scan.{term_at}
+use Rattle.terms.specs.Scan.{term_at, span}
 use Rattle.terms.proofs.SignBytes.{raws_signs}
+use Rattle.std.specs.Option.{is_some}
+use Rattle.terms.specs.Terms.{terms_of}
 use Rattle.terms.proofs.NextTerm.{terms_some, terms_none, term_within, term_size}
 use Rattle.forms.specs.Forms.{is_name, Property, property_of, topic_of}
 use Rattle.reading.specs.declared.Phase.{Phase}
 use Rattle.reading.specs.declared.Phase.TheVariants.{First, Options, Waits, Rest}
 use Rattle.reading.specs.declared.State.{State}
 use Rattle.reading.specs.declared.Shown.{Shown}
-use Rattle.reading.specs.declared.Decided.{Decided}
 use Rattle.reading.specs.declared.Cursor.{Cursor}
-use Rattle.reading.specs.declared.Offer as declared
-use Rattle.reading.specs.declared.Offer.TheVariants as offer
-use Rattle.reading.specs.declared.Step.{Step}
+use Rattle.reading.specs.declared.Offered.{Offered}
+use Rattle.text.specs.declared.Refusal.{Refusal}
+use Rattle.reading.specs.Cursor.{Step}
 use Rattle.reading.specs.Command.{Item, verb, option, argument, target, prop, shown_of}
 use Rattle.reading.specs.Reading.{is_help, Decision, refuses, takes, decide_in, decide, next, refusal, read, adding, ended, form_asked, past_start, place_of, going, walk_terms}
-use Rattle.reading.specs.Cursor.{decided_of, next_shown, cursor, step, term_in, offer_on, offer_end, offer_at, offer_of, cursor_after, step_of, left}
+use Rattle.reading.specs.Cursor.{decided_of, next_shown, cursor, step, term_in, offer_on, offer_end, offer_at, offer_of, cursor_after, step_of, left, offered}
 use Rattle.reading.specs.Shown.{name_size, counted}
 use Rattle.reading.proofs.TakenCases.{taken_case}
 use Rattle.forms.proofs.FormCases.{topic_from, property_from}
+use Rattle.std.proofs.Common.{Option, Some, None, not}
+use Rattle.text.proofs.Tests.{no_case}
+use Rattle.terms.specs.declared.Span.{Span}
+use Rattle.std.proofs.Common.{Result, Ok, Err}
+use Rattle.text.specs.Room.{refusal_at}
 
 -- ---- a part by what is shown of it
 
@@ -88,22 +92,22 @@ took s t i h = took_in s.phase s.verb s.seen s.count t i h
 
 -- ---- what is left of a line
 
-pub left_none : (line : List ℕ) (c : Cursor) → found.None ≡ term_at line c.at → left line c ≡ ended c.state.phase (length line)
+pub left_none : (line : List ℕ) (c : Cursor) → None ≡ term_at line c.at → left line c ≡ ended c.state.phase (length line)
 unfolding left walk_terms
 left_none line c e = rw (terms_none line c.at e)
 
-pub left_some : (line : List ℕ) (c : Cursor) (a n : ℕ) → found.Term a n ≡ term_at line c.at
+pub left_some : (line : List ℕ) (c : Cursor) (a n : ℕ) → Some (span a n) ≡ term_at line c.at
     → left line c
     ≡ going (decide c.state (signs Out (take n (drop a line)))) (place_of c.state (term_in line a n))
     (λ i. adding (record { start = a; len = n; item = i }) (left line (cursor (a + n) (next c.state i))))
 unfolding left walk_terms
 left_some line c a n e = rw (terms_some line c.at a n e, term_size line a n (term_within line c.at a n e).fits)
 
-pub left_refused : (line : List ℕ) (c : Cursor) (a n k : ℕ) → found.Term a n ≡ term_at line c.at
+pub left_refused : (line : List ℕ) (c : Cursor) (a n k : ℕ) → Some (span a n) ≡ term_at line c.at
     → decide c.state (signs Out (take n (drop a line))) ≡ refuses k → left line c ≡ refusal k (place_of c.state (term_in line a n) k)
 left_refused line c a n k e d = left_some line c a n e ∙ rw d
 
-pub left_takes : (line : List ℕ) (c : Cursor) (a n : ℕ) (i : Item) → found.Term a n ≡ term_at line c.at
+pub left_takes : (line : List ℕ) (c : Cursor) (a n : ℕ) (i : Item) → Some (span a n) ≡ term_at line c.at
     → decide c.state (signs Out (take n (drop a line))) ≡ takes i
     → left line c ≡ adding (record { start = a; len = n; item = i }) (left line (cursor (a + n) (next c.state i)))
 left_takes line c a n i e d = left_some line c a n e ∙ rw d
@@ -124,13 +128,13 @@ pub record Stepped (line : List ℕ) (c : Cursor) (x : Shown) (a n : ℕ) (after
   pub room : counted x ≡ 1 → c.state.count < 32
 
 -- what was given, by the term that was found and the decision on it
-data How (line : List ℕ) (c : Cursor) (g : declared.Offer) : Type 0 where
-  part : (i : Item) (a n : ℕ) → found.Term a n ≡ term_at line c.at → decide c.state (signs Out (take n (drop a line))) ≡ takes i
-      → g ≡ offer.Part (shown_of i) a n → How line c g
-  no : (k a : ℕ) → left line c ≡ refusal k a → g ≡ offer.Refused k a → How line c g
-  over : left line c ≡ read [] → g ≡ offer.End → How line c g
+data How (line : List ℕ) (c : Cursor) (g : Result (Option Offered) Refusal) : Type 0 where
+  part : (i : Item) (a n : ℕ) → Some (span a n) ≡ term_at line c.at → decide c.state (signs Out (take n (drop a line))) ≡ takes i
+      → g ≡ Ok (Some (offered (shown_of i) a n)) → How line c g
+  no : (k a : ℕ) → left line c ≡ refusal k a → g ≡ Err (refusal_at k a) → How line c g
+  over : left line c ≡ read [] → g ≡ Ok None → How line c g
 
-how : (line : List ℕ) (c : Cursor) (g : declared.Offer) → g ≡ offer_of line c.at c.state → How line c g
+how : (line : List ℕ) (c : Cursor) (g : Result (Option Offered) Refusal) → g ≡ offer_of line c.at c.state → How line c g
 unfolding offer_of
 how line c g is = go (term_at line c.at) refl
   where
@@ -140,20 +144,20 @@ how line c g is = go (term_at line c.at) refl
     over_in (Waits k) l h = no 9 (length line) l h
     over_in Rest l h = over l h
 
-    by : (a n : ℕ) (d : Decision) → found.Term a n ≡ term_at line c.at → decide c.state (signs Out (take n (drop a line))) ≡ d
+    by : (a n : ℕ) (d : Decision) → Some (span a n) ≡ term_at line c.at → decide c.state (signs Out (take n (drop a line))) ≡ d
         → g ≡ offer_on (place_of c.state (term_in line a n)) a n (decided_of d) → How line c g
     by a n (refuses k) e q h = no k (place_of c.state (term_in line a n) k) (left_refused line c a n k e q) h
     by a n (takes i) e q h = part i a n e q h
 
-    go : (f : Found) → term_at line c.at ≡ f → How line c g
-    go found.None e = over_in c.state.phase (left_none line c (sym e)) (is ∙ ap (offer_at line c.state) e)
-    go (found.Term a n) e = by a n (decide c.state (signs Out (take n (drop a line)))) (sym e) refl (is ∙ ap (offer_at line c.state) e)
+    go : (f : Option Span) → term_at line c.at ≡ f → How line c g
+    go None e = over_in c.state.phase (left_none line c (sym e)) (is ∙ ap (offer_at line c.state) e)
+    go (Some r) e = by r.at r.len (decide c.state (signs Out (take r.len (drop r.at line)))) (sym e) refl (is ∙ ap (offer_at line c.state) e)
 
-module _ (line : List ℕ) (c : Cursor) (g : declared.Offer) (is : g ≡ offer_of line c.at c.state) where
-  pub offer_part : (x : Shown) (a n : ℕ) → g ≡ offer.Part x a n → Stepped line c x a n (cursor (a + n) (next_shown c.state x))
+module _ (line : List ℕ) (c : Cursor) (g : Result (Option Offered) Refusal) (is : g ≡ offer_of line c.at c.state) where
+  pub offer_part : (x : Shown) (a n : ℕ) → g ≡ Ok (Some (offered x a n)) → Stepped line c x a n (cursor (a + n) (next_shown c.state x))
   offer_part x a n q = go (how line c g is)
     where
-      took_so : (i : Item) → shown_of i ≡ x → found.Term a n ≡ term_at line c.at → decide c.state (signs Out (take n (drop a line))) ≡ takes i
+      took_so : (i : Item) → shown_of i ≡ x → Some (span a n) ≡ term_at line c.at → decide c.state (signs Out (take n (drop a line))) ≡ takes i
           → Stepped line c x a n (cursor (a + n) (next_shown c.state x))
       took_so i e f d =
           let w = term_within line c.at a n f in
@@ -174,22 +178,23 @@ module _ (line : List ℕ) (c : Cursor) (g : declared.Offer) (is : g ≡ offer_o
       go : How line c g → Stepped line c x a n (cursor (a + n) (next_shown c.state x))
       go (part i b m f d h) =
           let z = sym h ∙ q in
-          let a-is : b ≡ a = cc in
-          let n-is : m ≡ n = cc in
-          let x-is : shown_of i ≡ x = cc in
+          let o : offered (shown_of i) b m ≡ offered x a n = cc in
+          let a-is : b ≡ a = ap (λ (o : Offered). o.term.at) o in
+          let n-is : m ≡ n = ap (λ (o : Offered). o.term.len) o in
+          let x-is : shown_of i ≡ x = ap (λ (o : Offered). o.item) o in
           took_so i x-is (rw (a-is, n-is) at f) (rw (a-is, n-is) at d)
       go (no k b l h) = let z = sym h ∙ q in let y : ◌≡◌ {A = ℕ} 0 1 = cc in absurd (omega arith)
       go (over l h) = let z = sym h ∙ q in let y : ◌≡◌ {A = ℕ} 0 1 = cc in absurd (omega arith)
 
-  pub offer_refused : (k a : ℕ) → g ≡ offer.Refused k a → left line c ≡ refusal k a
+  pub offer_refused : (k a : ℕ) → g ≡ Err (refusal_at k a) → left line c ≡ refusal k a
   offer_refused k a q = go (how line c g is)
     where
       go : How line c g → left line c ≡ refusal k a
       go (part i b m f d h) = let z = sym h ∙ q in let y : ◌≡◌ {A = ℕ} 0 1 = cc in absurd (omega arith)
-      go (no j b l h) = let z = sym h ∙ q in let y : refusal j b ≡ refusal k a = cc in l ∙ y
+      go (no j b l h) = let z = sym h ∙ q in let y : refusal_at j b ≡ refusal_at k a = cc in l ∙ ap (λ (r : Refusal). refusal r.number r.place) y
       go (over l h) = let z = sym h ∙ q in let y : ◌≡◌ {A = ℕ} 0 1 = cc in absurd (omega arith)
 
-  pub offer_end_lem : g ≡ offer.End → left line c ≡ read []
+  pub offer_end_lem : g ≡ Ok None → left line c ≡ read []
   offer_end_lem q = go (how line c g is)
     where
       go : How line c g → left line c ≡ read []
@@ -207,24 +212,32 @@ module _ (line : List ℕ) (c : Cursor) (s : Step) (is : s ≡ step_of line c) w
   unfolding step_of
   step_next = ap (λ (t : Step). t.next) is ∙ ap (cursor_after c) (sym step_offer)
 
-  pub step_part : (x : Shown) (a n : ℕ) → s.offer ≡ offer.Part x a n → Stepped line c x a n s.next
+  pub step_part : (x : Shown) (a n : ℕ) → s.offer ≡ Ok (Some (offered x a n)) → Stepped line c x a n s.next
   step_part x a n q = let e = step_next ∙ ap (cursor_after c) q in rw e (offer_part line c s.offer step_offer x a n q)
 
-  pub step_refused : (k a : ℕ) → s.offer ≡ offer.Refused k a → left line c ≡ refusal k a
+  pub step_refused : (k a : ℕ) → s.offer ≡ Err (refusal_at k a) → left line c ≡ refusal k a
   step_refused = offer_refused line c s.offer step_offer
 
-  pub step_end : s.offer ≡ offer.End → left line c ≡ read []
+  pub step_end : s.offer ≡ Ok None → left line c ≡ read []
   step_end = offer_end_lem line c s.offer step_offer
+
+-- a line without a first term is blank
+pub blank_by : (line : List ℕ) (o : Option Span) (b : Bool) → is_some o ≡ not b → o ≡ term_at line 0 → b ≡ is_nil (terms_of line)
+unfolding terms_of
+blank_by line None true h e = sym (ap is_nil (terms_none line 0 e))
+blank_by line (Some r) false h e = sym (ap is_nil (terms_some line 0 r.at r.len e))
+blank_by line None false h e = no_case (sym h)
+blank_by line (Some r) true h e = no_case h
 
 -- ---- what is given, as the code finds it
 
 -- without a term
-pub none_given : (line : List ℕ) (a : ℕ) (s : State) → found.None ≡ term_at line a → offer_end (length line) s.phase ≡ offer_of line a s
+pub none_given : (line : List ℕ) (a : ℕ) (s : State) → None ≡ term_at line a → offer_end (length line) s.phase ≡ offer_of line a s
 unfolding offer_of
 none_given line a s e = ap (offer_at line s) e
 
 -- with one, by the decision on it; the term begins the part of the line that begins at b
-pub term_given : (line : List ℕ) (a : ℕ) (s : State) (b n : ℕ) (d : Decided) → found.Term b n ≡ term_at line a
+pub term_given : (line : List ℕ) (a : ℕ) (s : State) (b n : ℕ) (d : Result Shown ℕ) → Some (span b n) ≡ term_at line a
     → d ≡ decided_of (decide_in s.phase s.verb s.seen s.count (signs Out (take n (take (length line - b) (drop b line)))))
     → offer_on (place_of s (term_in line b n)) b n d ≡ offer_of line a s
 unfolding offer_of decide
@@ -238,6 +251,6 @@ place_given line s b n k r e =
     ap (λ (z : ℕ). b + z) (e ∙ ap (past_start (form_asked s.phase s.verb k)) (part_between line b n ∙ sym (raws_signs (take n (drop b line)))))
 
 -- a step by what is given
-pub step_of_lem : (line : List ℕ) (c : Cursor) (g : declared.Offer) → g ≡ offer_of line c.at c.state → step g (cursor_after c g) ≡ step_of line c
+pub step_of_lem : (line : List ℕ) (c : Cursor) (g : Result (Option Offered) Refusal) → g ≡ offer_of line c.at c.state → step g (cursor_after c g) ≡ step_of line c
 unfolding step_of
-step_of_lem line c g is = ap (λ (h : declared.Offer). step h (cursor_after c h)) is
+step_of_lem line c g is = ap (λ (h : Result (Option Offered) Refusal). step h (cursor_after c h)) is

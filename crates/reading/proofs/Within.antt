@@ -8,8 +8,6 @@ use native.Mathlib.Omega.{arith}
 use lib.ListN.{length, take}
 use lib.Dec.{eqb, leb, ltb}
 use borrow.Author.Tests.{leb-true, ltb-true, ltb-false}
-use Rattle.text.specs.declared.Verdict.{Verdict}
-use Rattle.text.specs.declared.Verdict.TheVariants.{Fine, Flawed}
 use Rattle.text.specs.Bytes.{printable}
 use Rattle.text.specs.Lists.{run_len, walk}
 use Rattle.text.proofs.Tests.{and_l, and_r}
@@ -33,6 +31,10 @@ use Rattle.reading.specs.Inside.{InTerm}
 use Rattle.reading.specs.Order.{Placed, Refused, by_line, by_term, by_end}
 use Rattle.reading.proofs.Order.{line_exactly}
 use Rattle.reading.proofs.Folds.{fine_short}
+use Rattle.std.proofs.Common.{Result, Ok, Err}
+use Rattle.text.specs.declared.Refusal.{Refusal}
+use Rattle.text.proofs.Refusals.{same_place}
+use Rattle.text.specs.Room.{refusal_at}
 
 -- terms in order end before the end
 terms_end : (from end : ℕ) (ts : List Term) → in_order from end ts ≡ true → from ≤ end
@@ -58,19 +60,19 @@ term_end from end (b ∷ bs) t after o = term_end (b.start + size_of b) end bs t
 
 -- ---- rows 2 to 5
 
-abbrev Held : ℕ → Verdict → Type 0
-Held n Fine = Unit {0}
-Held n (Flawed k p) = p ≤ n
+abbrev Held : ℕ → Result Unit Refusal → Type 0
+Held n (Ok u) = Unit {0}
+Held n (Err e) = e.place ≤ n
 
-or_placed : (n : ℕ) (v w : Verdict) → Held n v → Held n w → Held n (or_else v w)
-or_placed n Fine w a b = b
-or_placed n (Flawed k p) w a b = a
+or_placed : (n : ℕ) (v w : Result Unit Refusal) → Held n v → Held n w → Held n (or_else v w)
+or_placed n (Ok u) w a b = b
+or_placed n (Err e) w a b = a
 
 odd_placed : (line : List ℕ) → Held (length line) (odd_flaw line)
 unfolding odd_flaw
 odd_placed line = go (ltb (run_len printable line) (length line))
   where
-    go : (x : Bool) → Held (length line) (cond x (Flawed 2 (run_len printable line)) Fine)
+    go : (x : Bool) → Held (length line) (cond x (Err (refusal_at 2 (run_len printable line))) (Ok tt))
     go true = run_within printable line
     go false = tt
 
@@ -105,11 +107,11 @@ many_placed k from end [] o = tt
 many_placed k from end (t ∷ ts) o =
     go (eqb k 64) (omega (arith, (rest_order from end t ts o).0)) (many_placed (k + 1) (t.start + size_of t) end ts (rest_order from end t ts o).1)
   where
-    go : (x : Bool) → t.start ≤ end → Held end (many_from (k + 1) ts) → Held end (cond x (Flawed 5 t.start) (many_from (k + 1) ts))
+    go : (x : Bool) → t.start ≤ end → Held end (many_from (k + 1) ts) → Held end (cond x (Err (refusal_at 5 t.start)) (many_from (k + 1) ts))
     go true h ih = h
     go false h ih = ih
 
-lexical_placed : (line : List ℕ) (k p : ℕ) → lexical_of line ≡ Flawed k p → (p ≤ length line) × (p ≤ 1024)
+lexical_placed : (line : List ℕ) (k p : ℕ) → lexical_of line ≡ Err (refusal_at k p) → (p ≤ length line) × (p ≤ 1024)
 unfolding lexical_of long_flaw many_flaw
 lexical_placed line k p h = go (ltb 1024 (length line)) refl
   where
@@ -120,13 +122,13 @@ lexical_placed line k p h = go (ltb 1024 (length line)) refl
 
     go : (x : Bool) → ltb 1024 (length line) ≡ x → (p ≤ length line) × (p ≤ 1024)
     go true e =
-        let z : Flawed 1 1024 ≡ Flawed k p = rw e at h in
-        let y : 1024 ≡ p = cc in
+        let z : Err (refusal_at 1 1024) ≡ Err (refusal_at k p) = rw e at h in
+        let y : 1024 ≡ p = same_place z in
         let l = ltb-true 1024 (length line) e in
         (omega arith, omega arith)
     go false e =
         let l = ltb-false 1024 (length line) e in
-        let z : or_else (odd_flaw line) (or_else (open_flaw line) (many_from 0 (terms_of line))) ≡ Flawed k p = rw e at h in
+        let z : or_else (odd_flaw line) (or_else (open_flaw line) (many_from 0 (terms_of line))) ≡ Err (refusal_at k p) = rw e at h in
         let w : p ≤ length line = rw z at later in
         (w, omega arith)
 
@@ -150,7 +152,7 @@ no_grave_lem (some f) t p e h =
     rw d (unsplit f r (omega arith))
 
 -- WHERE A TERM IS REFUSED, the place lies in it or at its end, and never between a GRAVE and the byte that it escapes
-pub place_in_term : (line : List ℕ) (k p : ℕ) → lexical_of line ≡ Fine → (k ≡ 9 → ⊥) → reading_of line ≡ refusal k p → InTerm line p
+pub place_in_term : (line : List ℕ) (k p : ℕ) → lexical_of line ≡ Ok tt → (k ≡ 9 → ⊥) → reading_of line ≡ refusal k p → InTerm line p
 place_in_term line k p fine n h = go ((line_exactly line k p).0 h)
   where
     go : Refused line k p → InTerm line p

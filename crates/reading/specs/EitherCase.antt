@@ -9,7 +9,8 @@ use Rattle.words.specs.declared.Kind.TheVariants.{Mere, Keep, Level, Place, Entr
 use Rattle.words.specs.Words.{kind_of}
 use Rattle.reading.specs.Command.{Item, verb, option, argument, target, prop}
 use Rattle.reading.specs.Reading.{Part}
-use Rattle.reading.specs.Records.{span, part_at}
+use Rattle.terms.specs.Scan.{span}
+use Rattle.reading.specs.Records.{part_at}
 
 -- of the arguments, level's
 abbrev pub is_level_kind : Kind → Bool

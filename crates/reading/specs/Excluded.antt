@@ -1,8 +1,7 @@
 -- Request b: of a command, that its verb has every option given; of a line, that it is refused for an option that its verb can't have, and what it would be
 -- read as otherwise.
-use Rattle.std.specs.Prelude.{ℕ, ◌≡◌, List, [], ◌∷◌, ◌++◌, Bool, true, false, cond, length, drop, get_or, eqb}
+use Rattle.std.specs.Prelude.{ℕ, ◌≡◌, List, [], ◌∷◌, ◌++◌, Bool, true, false, cond, length, drop, get_or, eqb, Ok}
 use Rattle.std.proofs.Math.Option.{Option, none, some}
-use Rattle.text.specs.declared.Verdict.TheVariants.{Fine}
 use Rattle.text.specs.Lists.{all_of}
 use Rattle.terms.specs.Signs.{Sign, raws}
 use Rattle.terms.specs.Terms.{Term, terms_of}
@@ -45,7 +44,7 @@ pub record Excluded (line : List ℕ) (p : ℕ) : Type 0 where
   pub state : State
   pub verb_no : ℕ
   pub option_no : ℕ
-  pub fine : lexical_of line ≡ Fine
+  pub fine : lexical_of line ≡ Ok tt
   pub terms : terms_of line ≡ (first ∷ between) ++ (here ∷ after)
   pub taken : state_past begin (first ∷ between) ≡ some state
   pub is_verb : verb_of (raws first.text) ≡ some verb_no

@@ -7,7 +7,7 @@ use Rattle.terms.specs.Terms.{Term, terms_of}
 use Rattle.terms.specs.Rows.{end_mode}
 use Rattle.terms.specs.Going.{size_of}
 use Rattle.reach.specs.Pairs.{grave_waits}
-use Rattle.reading.specs.declared.Span.{Span}
+use Rattle.terms.specs.declared.Span.{Span}
 use Rattle.reading.specs.Command.{shown_of}
 use Rattle.reading.specs.Reading.{Part}
 use Rattle.reading.specs.Records.{Field, byte, part, fields_of}

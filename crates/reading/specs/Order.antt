@@ -1,7 +1,6 @@
 -- Numbers a refused caller gets, rows 6 to 14 and 20: the condition of each row by itself, the order of the rows, and what a refused line is.
-use Rattle.std.specs.Prelude.{ℕ, ◌+◌, ◌≡◌, List, [], ◌∷◌, ◌++◌, Bool, true, false, cond, not, ◌&&◌, ◌||◌, length, drop, get_or, eqb, leb}
+use Rattle.std.specs.Prelude.{ℕ, ◌+◌, ◌≡◌, List, [], ◌∷◌, ◌++◌, Bool, true, false, cond, not, ◌&&◌, ◌||◌, length, drop, get_or, eqb, leb, Ok, Err}
 use Rattle.std.proofs.Math.Option.{Option, none, some}
-use Rattle.text.specs.declared.Verdict.TheVariants.{Fine, Flawed}
 use Rattle.terms.specs.Signs.{Sign, raws}
 use Rattle.terms.specs.Terms.{Term, terms_of}
 use Rattle.terms.specs.Rows.{lexical_of}
@@ -18,6 +17,7 @@ use Rattle.reading.specs.declared.Phase.TheVariants.{First, Options, Waits, Rest
 use Rattle.reading.specs.declared.State.{State}
 use Rattle.reading.specs.Command.{Item, argument_by}
 use Rattle.reading.specs.Reading.{begin, is_help, Decision, refuses, takes, decide, next, form_asked}
+use Rattle.text.specs.Room.{refusal_at}
 
 -- ---- the places of a command: the verb's; the options'; the place after an option that takes an argument; after the options' end
 
@@ -169,7 +169,7 @@ Placed (some f) t p = EndsIn f t p
 -- rows 1 to 5 give it; or none of them holds, all terms before one of them are taken, k is the first row that holds of that one, and p is its place; or all terms
 -- are taken, an option still waits for its argument, and it is 9 at the line's length
 pub data Refused (line : List ℕ) (k p : ℕ) : Type 0 where
-  by_line : lexical_of line ≡ Flawed k p → Refused line k p
-  by_term : (before : List Term) (t : Term) (after : List Term) (s : State) → lexical_of line ≡ Fine → terms_of line ≡ before ++ (t ∷ after)
+  by_line : lexical_of line ≡ Err (refusal_at k p) → Refused line k p
+  by_term : (before : List Term) (t : Term) (after : List Term) (s : State) → lexical_of line ≡ Ok tt → terms_of line ≡ before ++ (t ∷ after)
       → state_past begin before ≡ some s → Placed (form_asked s.phase s.verb k) t p → is_first_of (holds s t.text) order k ≡ true → Refused line k p
-  by_end : (s : State) → lexical_of line ≡ Fine → state_past begin (terms_of line) ≡ some s → is_waits s.phase ≡ true → k ≡ 9 → p ≡ length line → Refused line k p
+  by_end : (s : State) → lexical_of line ≡ Ok tt → state_past begin (terms_of line) ≡ some s → is_waits s.phase ≡ true → k ≡ 9 → p ≡ length line → Refused line k p

@@ -1,8 +1,6 @@
 -- The command and rows 6 to 14 and 20: the terms of a line from left to right, each decided by the state and its own signs.
-use Rattle.std.specs.Prelude.{ℕ, ◌+◌, List, [], ◌∷◌, map, Bool, true, false, cond, not, ◌&&◌, length, drop, get_or, set, replicate, eqb, leb}
+use Rattle.std.specs.Prelude.{ℕ, ◌+◌, List, [], ◌∷◌, map, Bool, true, false, cond, not, ◌&&◌, length, drop, get_or, set, replicate, eqb, leb, Result, Ok, Err}
 use Rattle.std.proofs.Math.Option.{Option, none, some}
-use Rattle.text.specs.declared.Verdict.{Verdict}
-use Rattle.text.specs.declared.Verdict.TheVariants.{Fine, Flawed}
 use Rattle.terms.specs.Signs.{Sign, raws}
 use Rattle.terms.specs.Terms.{Term, terms_of}
 use Rattle.terms.specs.Rows.{lexical_of}
@@ -19,6 +17,7 @@ use Rattle.reading.specs.declared.Phase.{Phase}
 use Rattle.reading.specs.declared.Phase.TheVariants.{First, Options, Waits, Rest}
 use Rattle.reading.specs.declared.State.{State}
 use Rattle.reading.specs.Command.{argument_by, argument_form, Item, verb, option, argument, target, prop}
+use Rattle.text.specs.declared.Refusal.{Refusal}
 
 -- A state: what may come next (the verb; options, the target or a property; the argument of an option; properties alone), the verb's number (0 before it),
 -- the options seen, the properties counted.
@@ -155,9 +154,9 @@ walk_terms n s [] = ended s.phase n
 walk_terms n s (t ∷ ts) = going (decide s t.text) (place_of s t) (λ i. adding (part_of t i) (walk_terms n (next s i) ts))
 
 -- 1 to 5 come first
-abbrev pub unless : Verdict → Reading → Reading
-unless Fine r = r
-unless (Flawed n p) r = refusal n p
+abbrev pub unless : Result Unit Refusal → Reading → Reading
+unless (Ok u) r = r
+unless (Err e) r = refusal e.number e.place
 
 unfoldable pub reading_of : List ℕ → Reading
 reading_of line = let r = walk_terms (length line) begin (terms_of line) in unless (lexical_of line) r

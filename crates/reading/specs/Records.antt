@@ -1,19 +1,16 @@
 -- Records of a reading, and what a read into lent room answers.
-use Rattle.std.specs.Prelude.{ℕ, ◌+◌, ◌-◌, List, [], ◌∷◌, ◌++◌, cond, take, drop, eqb}
-use Rattle.text.specs.declared.Answer.{Answer}
-use Rattle.text.specs.declared.Answer.TheVariants.{Refused}
-use Rattle.text.specs.Room.{high_low, fitted, filled}
+use Rattle.std.specs.Prelude.{ℕ, ◌+◌, ◌-◌, List, [], ◌∷◌, ◌++◌, cond, take, drop, eqb, Result, Err}
+use Rattle.text.specs.Room.{high_low, fitted, filled, refusal_at}
 use Rattle.words.specs.declared.Kind.{Kind}
 use Rattle.words.specs.declared.Kind.TheVariants.{Mere, Keep, Level, Place, Entries}
 use Rattle.words.specs.Words.{kind_of}
-use Rattle.reading.specs.declared.Span.{Span}
+use Rattle.terms.specs.declared.Span.{Span}
 use Rattle.reading.specs.declared.Shown.{Shown}
 use Rattle.reading.specs.declared.Shown.TheVariants as shown
 use Rattle.reading.specs.Command.{Item, verb, option, argument, target, prop, shown_of}
 use Rattle.reading.specs.Reading.{Part, Reading, refusal, read, reading_of}
-
-abbrev pub span : ℕ → ℕ → Span
-span a n = record { at = a; len = n }
+use Rattle.text.specs.declared.Refusal.{Refusal}
+use Rattle.terms.specs.Scan.{span}
 
 -- a field of a record: a number of one byte, or a part of the line by its position and length, 2 bytes each, high first
 pub data Field : Type 0 where
@@ -64,8 +61,8 @@ read_records [] = 6 ∷ []
 read_records (p ∷ ps) = records_of (p ∷ ps)
 
 -- what a read answers, and what the room then holds; a refusal writes nothing, and 19 comes last, exactly when the bytes don't fit
-abbrev pub answer_in : ℕ → Reading → Answer
-answer_in room (refusal n p) = Refused n p
+abbrev pub answer_in : ℕ → Reading → Result ℕ Refusal
+answer_in room (refusal n p) = Err (refusal_at n p)
 answer_in room (read ps) = fitted room (read_records ps)
 
 abbrev pub room_in : List ℕ → Reading → List ℕ

@@ -1,36 +1,31 @@
 -- What the code goes by: a part by its numbers, and what a reading says of a line without its parts.
-use Rattle.std.specs.Prelude.{ℕ, ◌+◌, List, [], Bool, true, false, cond, length}
-use Rattle.text.specs.declared.Answer.{Answer}
-use Rattle.text.specs.declared.Answer.TheVariants.{Wrote, Refused}
-use Rattle.text.specs.declared.Verdict.{Verdict}
-use Rattle.text.specs.declared.Verdict.TheVariants.{Fine, Flawed}
+use Rattle.std.specs.Prelude.{ℕ, ◌+◌, List, [], Bool, true, false, cond, length, Result, Ok, Err, Option, Some, None}
 use Rattle.forms.specs.declared.Shape.{Shape}
-use Rattle.forms.specs.declared.Shape.TheVariants as shape
 use Rattle.reading.specs.declared.Shown.{Shown}
 use Rattle.reading.specs.declared.Shown.TheVariants as shown
-use Rattle.reading.specs.declared.Decided.{Decided}
-use Rattle.reading.specs.declared.Decided.TheVariants.{Takes, Refuses}
 use Rattle.reading.specs.Reading.{Reading, refusal, read}
 use Rattle.reading.specs.Records.{records_of, read_records}
+use Rattle.text.specs.declared.Refusal.{Refusal}
+use Rattle.text.specs.Room.{refusal_at}
 
 -- a reading's refusal, or that it has none
-abbrev pub verdict_in : Reading → Verdict
-verdict_in (refusal n p) = Flawed n p
-verdict_in (read ps) = Fine
+abbrev pub verdict_in : Reading → Result Unit Refusal
+verdict_in (refusal n p) = Err (refusal_at n p)
+verdict_in (read ps) = Ok tt
 
 -- how many bytes a reading's records have, or its refusal
-abbrev pub needed_in : Reading → Answer
-needed_in (refusal n p) = Refused n p
-needed_in (read ps) = Wrote (length (read_records ps))
+abbrev pub needed_in : Reading → Result ℕ Refusal
+needed_in (refusal n p) = Err (refusal_at n p)
+needed_in (read ps) = Ok (length (read_records ps))
 
 -- ---- decisions by what the forms answer
 
-abbrev pub by_shape : Shape → Decided
-by_shape (shape.Is m o) = Takes (shown.Property m o)
-by_shape shape.No = Refuses 13
+abbrev pub by_shape : Option Shape → Result Shown ℕ
+by_shape (Some e) = Ok (shown.Property e.name e.operator)
+by_shape None = Err 13
 
-abbrev pub argument_if : Bool → ℕ → Decided
-argument_if fits n = cond fits (Takes (shown.Argument n)) (Refuses 10)
+abbrev pub argument_if : Bool → ℕ → Result Shown ℕ
+argument_if fits n = cond fits (Ok (shown.Argument n)) (Err 10)
 
 -- ---- of a part, by its numbers
 
@@ -56,9 +51,9 @@ abbrev pub records_in : Reading → List ℕ
 records_in (refusal n p) = []
 records_in (read ps) = records_of ps
 
-abbrev pub total_from : ℕ → Reading → Answer
-total_from n (refusal k p) = Refused k p
-total_from n (read ps) = Wrote (n + length (records_of ps))
+abbrev pub total_from : ℕ → Reading → Result ℕ Refusal
+total_from n (refusal k p) = Err (refusal_at k p)
+total_from n (read ps) = Ok (n + length (records_of ps))
 
 -- the records of a reading, blank among them
 abbrev pub bytes_in : Reading → List ℕ

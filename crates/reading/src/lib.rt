@@ -7,20 +7,21 @@ ghost use Rattle.text.specs.Lists.{is_nil};
 ghost use Rattle.text.specs.Room.{fitted, filled};
 ghost use Rattle.terms.specs.declared.Mode.TheVariants.{Out};
 ghost use Rattle.terms.specs.Signs.{signs};
+ghost use Rattle.terms.specs.Scan.{span};
 ghost use Rattle.terms.specs.Terms.{terms_of};
 ghost use Rattle.words.specs.Words.{kind_of};
 ghost use Rattle.reach.specs.Reach.{reach_of};
 ghost use Rattle.reading.specs.Command.{argument_form};
 ghost use Rattle.reading.specs.Reading.{decide_verb, decide_option, decide_argument, decide_target, decide_property, decide_after, decide_in, phase_after, waiting_form, property_form, form_asked, past_start, reading_of};
-ghost use Rattle.reading.specs.Records.{byte, part, bytes_of, option_fields, record_of, answer_in, room_in, refusal_record, cut_record, span, target_in, target_part};
-ghost use Rattle.reading.specs.Cursor.{decided_of, next_shown, offer_end, offer_of, step_of, left, first_cursor};
+ghost use Rattle.reading.specs.Records.{part, field_bytes, bytes_of, option_fields, value_span, record_of, answer_in, room_in, refusal_record, cut_record, target_in, target_part};
+ghost use Rattle.reading.specs.Cursor.{decided_of, next_shown, offer_end, offer_of, step, step_of, left, first_cursor};
 ghost use Rattle.reading.specs.Shown.{verdict_in, needed_in, by_shape, argument_if, name_size, counted, records_in, total_from, bytes_in, is_target};
 
-use forms::{Shape, Where};
+use forms::Shape;
 use reach::Form;
-use terms::Found;
-use text::{Answer, Verdict};
-use words::{Kind, Known};
+use terms::Span;
+use text::Refusal;
+use words::Kind;
 
 // What may come next.
 #[derive(Clone, Copy)]
@@ -50,111 +51,68 @@ pub enum Shown {
     Property { name: usize, operator: u8 },
 }
 
-// A term is a part of the command, or is refused by a number.
-#[derive(Clone, Copy)]
-pub enum Decided {
-    Takes(Shown),
-    Refuses(u8),
-}
-
 #[derive(Clone, Copy)]
 pub struct Cursor {
     pub at: usize,
     pub state: State,
 }
 
-// What a step gives.
+// A term that is offered: as which part, and where it stands.
 #[derive(Clone, Copy)]
-pub enum Offer {
-    Part {
-        item: Shown,
-        start: usize,
-        len: usize,
-    },
-    Refused {
-        number: u8,
-        place: usize,
-    },
-    End,
+pub struct Offered {
+    pub item: Shown,
+    pub term: Span,
 }
 
-#[derive(Clone, Copy)]
-pub struct Step {
-    pub offer: Offer,
-    pub next: Cursor,
-}
+// ---- the decision on one term, by what may come next and by the term's own bytes: which part it is, or the number of its refusal, a code of the papers
 
-// A part of a line.
-#[derive(Clone, Copy)]
-pub struct Span {
-    pub at: usize,
-    pub len: usize,
-}
-
-// ---- the decision on one term: by what may come next, and by the term's own bytes
-
-fn decide_verb(t: &[u8]) -> Decided
+fn decide_verb(t: &[u8]) -> Result<Shown, u8>
     ensures { result ≡ decided_of (decide_verb (signs Out t.now)) }
 {
-    let k = words::verb(t);
-    match k {
-        Known::Is(n) => Decided::Takes(Shown::Verb(n)),
-        Known::Unknown => Decided::Refuses(6),
-    }
+    let n = words::verb(t).ok_or(6)?;
+    Ok(Shown::Verb(n))
 }
 
 fn was_seen(seen: [bool; 13], n: u8) -> bool
     ensures { result ≡ get_or seen n false }
 {
-    let i = n as usize;
-    if i < 13 {
-        return seen[i];
-    }
-    false
+    seen.get(usize::from(n)).copied().unwrap_or(false)
 }
 
-fn decide_option(t: &[u8], verb: u8, seen: [bool; 13]) -> Decided
+fn decide_option(t: &[u8], verb: u8, seen: [bool; 13]) -> Result<Shown, u8>
     ensures { result ≡ decided_of (decide_option verb seen (signs Out t.now)) }
 {
-    if t.len() == 0 {
-        return Decided::Refuses(7);
+    let (_, name) = t.split_first().ok_or(7)?;
+    let n = words::option(name).ok_or(7)?;
+    if !support::allows(verb, n) {
+        return Err(20);
     }
-    let k = words::option(&t[1..]);
-    match k {
-        Known::Is(n) => {
-            if !support::allows(verb, n) {
-                return Decided::Refuses(20);
-            }
-            if was_seen(seen, n) {
-                return Decided::Refuses(8);
-            }
-            Decided::Takes(Shown::Option(n))
-        }
-        Known::Unknown => Decided::Refuses(7),
+    if was_seen(seen, n) {
+        return Err(8);
     }
+    Ok(Shown::Option(n))
 }
 
-fn argument_if(fits: bool, option: u8) -> Decided
+fn argument_if(fits: bool, option: u8) -> Result<Shown, u8>
     ensures { result ≡ argument_if fits option }
 {
     if fits {
-        return Decided::Takes(Shown::Argument(option));
+        return Ok(Shown::Argument(option));
     }
-    Decided::Refuses(10)
+    Err(10)
 }
 
-// The argument is the first n bytes of s.
-fn decide_argument(s: &[u8], n: usize, option: u8) -> Decided
+// The argument is the first n bytes of s. Here and below a term comes with a count, for the rules hand it on as the part of the line where it begins.
+fn decide_argument(s: &[u8], n: usize, option: u8) -> Result<Shown, u8>
     requires { n ≤ length s.now }
     ensures { result ≡ decided_of (decide_argument option (signs Out (take n s.now))) }
 {
     let t = &s[..n];
     if terms::starts_bare(t, b'-') {
-        return Decided::Refuses(9);
+        return Err(9);
     }
-    let kind = words::kind_of(option);
-    match kind {
-        Kind::Mere => Decided::Refuses(10),
+    match words::kind_of(option) {
+        Kind::Mere => Err(10),
         Kind::Keep => argument_if(forms::is_keep(t), option),
         Kind::Level => argument_if(forms::is_level(t), option),
         Kind::Place => argument_if(forms::is_place(t), option),
@@ -162,35 +120,26 @@ fn decide_argument(s: &[u8], n: usize, option: u8) -> Decided
     }
 }
 
-fn decide_target(t: &[u8]) -> Decided
+fn decide_target(t: &[u8]) -> Result<Shown, u8>
     ensures { result ≡ decided_of (decide_target (signs Out t.now)) }
 {
-    let w = forms::target_of(t);
-    match w {
-        Where::Session => Decided::Takes(Shown::Target),
-        Where::Path {
-            rooted: _,
-            segments: _,
-        } => Decided::Takes(Shown::Target),
-        Where::No => Decided::Refuses(12),
-    }
+    forms::target_of(t).ok_or(12)?;
+    Ok(Shown::Target)
 }
 
-fn by_shape(k: Shape) -> Decided
+fn by_shape(k: Option<Shape>) -> Result<Shown, u8>
     ensures { result ≡ by_shape k }
 {
-    match k {
-        Shape::Is { name, operator } => Decided::Takes(Shown::Property { name, operator }),
-        Shape::No => Decided::Refuses(13),
-    }
+    let Shape { name, operator } = k.ok_or(13)?;
+    Ok(Shown::Property { name, operator })
 }
 
-fn decide_property(s: &[u8], n: usize, help: bool, count: usize) -> Decided
+fn decide_property(s: &[u8], n: usize, help: bool, count: usize) -> Result<Shown, u8>
     requires { n ≤ length s.now }
     ensures { result ≡ decided_of (decide_property help count (signs Out (take n s.now))) }
 {
     if 32 <= count {
-        return Decided::Refuses(14);
+        return Err(14);
     }
     if help {
         return by_shape(forms::topic_of(&s[..n]));
@@ -199,7 +148,7 @@ fn decide_property(s: &[u8], n: usize, help: bool, count: usize) -> Decided
 }
 
 // The first term after the options: the target, unless the verb is help or it has a bare `=`.
-fn decide_after(s: &[u8], n: usize, help: bool, count: usize) -> Decided
+fn decide_after(s: &[u8], n: usize, help: bool, count: usize) -> Result<Shown, u8>
     requires { n ≤ length s.now }
     ensures { result ≡ decided_of (decide_after help count (signs Out (take n s.now))) }
 {
@@ -214,24 +163,26 @@ fn decide_after(s: &[u8], n: usize, help: bool, count: usize) -> Decided
 }
 
 // The term is the first n bytes of s.
-fn decide_in(s: &[u8], n: usize, phase: Phase, verb: u8, seen: [bool; 13], count: usize) -> Decided
+fn decide_in(s: &[u8], n: usize, state: State) -> Result<Shown, u8>
     requires { n ≤ length s.now }
-    ensures { result ≡ decided_of (decide_in phase verb seen count (signs Out (take n s.now))) }
+    ensures { result ≡ decided_of (decide_in state.phase state.verb state.seen state.count (signs Out (take n s.now))) }
 {
     let t = &s[..n];
+    let verb = state.verb;
+    let count = state.count;
     let help = verb == 6;
-    match phase {
+    match state.phase {
         Phase::First => decide_verb(t),
         Phase::Options => {
             if terms::starts_bare(t, b'-') {
-                return decide_option(t, verb, seen);
+                return decide_option(t, verb, state.seen);
             }
             decide_after(s, n, help, count)
         }
         Phase::Waits(option) => decide_argument(s, n, option),
         Phase::Rest => {
             if terms::starts_bare(t, b'-') {
-                return Decided::Refuses(11);
+                return Err(11);
             }
             decide_property(s, n, help, count)
         }
@@ -244,8 +195,7 @@ fn decide_in(s: &[u8], n: usize, phase: Phase, verb: u8, seen: [bool; 13], count
 fn past_argument(t: &[u8], option: u8) -> usize
     ensures { result ≡ past_start (argument_form (kind_of option)) t.now }
 {
-    let kind = words::kind_of(option);
-    match kind {
+    match words::kind_of(option) {
         Kind::Mere => 0,
         Kind::Keep => reach::reach(t, Form::Keep),
         Kind::Level => reach::reach(t, Form::Level),
@@ -258,63 +208,48 @@ fn past_argument(t: &[u8], option: u8) -> usize
 fn past_waiting(t: &[u8], phase: Phase) -> usize
     ensures { result ≡ past_start (waiting_form phase) t.now }
 {
-    match phase {
-        Phase::First => 0,
-        Phase::Options => 0,
-        Phase::Waits(option) => past_argument(t, option),
-        Phase::Rest => 0,
-    }
+    let Phase::Waits(option) = phase else {
+        return 0;
+    };
+    past_argument(t, option)
 }
 
 // A property; with help, a topic.
 fn past_property(t: &[u8], help: bool) -> usize
     ensures { result ≡ reach_of (property_form help) t.now }
 {
-    if help {
-        return reach::reach(t, Form::Topic);
-    }
-    reach::reach(t, Form::Property)
+    reach::reach(t, if help { Form::Topic } else { Form::Property })
 }
 
 fn past_start(t: &[u8], phase: Phase, verb: u8, number: u8) -> usize
     ensures { result ≡ past_start (form_asked phase verb number) t.now }
 {
-    if number == 10 {
-        return past_waiting(t, phase);
+    match number {
+        10 => past_waiting(t, phase),
+        12 => reach::reach(t, Form::Target),
+        13 => past_property(t, verb == 6),
+        _ => 0,
     }
-    if number == 12 {
-        return reach::reach(t, Form::Target);
-    }
-    if number == 13 {
-        return past_property(t, verb == 6);
-    }
-    0
 }
 
 // ---- one step
 
-fn marked(seen: [bool; 13], n: u8) -> [bool; 13]
+fn marked(mut seen: [bool; 13], n: u8) -> [bool; 13]
     ensures { result ≡ set seen n true }
 {
-    let mut m = seen;
-    let i = n as usize;
-    if i < 13 {
-        m[i] = true;
-        return m;
+    let i = usize::from(n);
+    if i < seen.len() {
+        seen[i] = true;
     }
-    m
+    seen
 }
 
 fn phase_after(n: u8) -> Phase
     ensures { result ≡ phase_after n (kind_of n) }
 {
-    let k = words::kind_of(n);
-    match k {
+    match words::kind_of(n) {
         Kind::Mere => Phase::Options,
-        Kind::Keep => Phase::Waits(n),
-        Kind::Level => Phase::Waits(n),
-        Kind::Place => Phase::Waits(n),
-        Kind::Entries => Phase::Waits(n),
+        Kind::Keep | Kind::Level | Kind::Place | Kind::Entries => Phase::Waits(n),
     }
 }
 
@@ -323,87 +258,43 @@ fn after(s: State, i: Shown) -> State
     requires { counted i ≡ 1 → s.count < 32 }
     ensures { result ≡ next_shown s i }
 {
-    let verb = s.verb;
-    let seen = s.seen;
-    let count = s.count;
     match i {
-        Shown::Verb(n) => State {
-            phase: Phase::Options,
-            verb: n,
-            seen,
-            count,
-        },
-        Shown::Option(n) => {
-            let phase = phase_after(n);
-            let m = marked(seen, n);
-            State {
-                phase,
-                verb,
-                seen: m,
-                count,
-            }
-        }
-        Shown::Argument(_) => State {
+        Shown::Verb(verb) => State {
             phase: Phase::Options,
             verb,
-            seen,
-            count,
+            ..s
+        },
+        Shown::Option(n) => State {
+            phase: phase_after(n),
+            seen: marked(s.seen, n),
+            ..s
+        },
+        Shown::Argument(_) => State {
+            phase: Phase::Options,
+            ..s
         },
         Shown::Target => State {
             phase: Phase::Rest,
-            verb,
-            seen,
-            count,
+            ..s
         },
-        Shown::Property {
-            name: _,
-            operator: _,
-        } => State {
+        Shown::Property { .. } => State {
             phase: Phase::Rest,
-            verb,
-            seen,
-            count: count + 1,
+            count: s.count + 1,
+            ..s
         },
     }
 }
 
 // What the end of a line of n bytes gives: an option that still waits for its argument is refused there.
-fn offer_end(phase: Phase, n: usize) -> Offer
+fn offer_end(phase: Phase, n: usize) -> Result<Option<Offered>, Refusal>
     ensures { result ≡ offer_end n phase }
 {
     match phase {
-        Phase::First => Offer::End,
-        Phase::Options => Offer::End,
-        Phase::Waits(_) => Offer::Refused {
+        Phase::Waits(_) => Err(Refusal {
             number: 9,
             place: n,
-        },
-        Phase::Rest => Offer::End,
-    }
-}
-
-// What the next term from a place on gives, in a state.
-fn offer_next(line: &[u8], at: usize, state: State) -> Offer
-    ensures { result ≡ offer_of line.now at state }
-{
-    let phase = state.phase;
-    let Found::Term { start, len } = terms::term_at(line, at) else {
-        return offer_end(phase, line.len());
-    };
-    let verb = state.verb;
-    let seen = state.seen;
-    let count = state.count;
-    let d = decide_in(&line[start..], len, phase, verb, seen, count);
-    match d {
-        Decided::Takes(item) => Offer::Part { item, start, len },
-        Decided::Refuses(number) => {
-            let end = start + len;
-            let past = past_start(&line[start..end], phase, verb, number);
-            Offer::Refused {
-                number,
-                place: start + past,
-            }
-        }
+        }),
+        Phase::First | Phase::Options | Phase::Rest => Ok(None),
     }
 }
 
@@ -412,69 +303,72 @@ impl Cursor {
     pub fn begin() -> Cursor
         ensures { result ≡ first_cursor }
     {
-        let state = State {
-            phase: Phase::First,
-            verb: 0,
-            seen: [false; 13],
-            count: 0,
-        };
-        Cursor { at: 0, state }
-    }
-
-    // The next item of a line, and the cursor after it.
-    pub fn next(self, line: &[u8]) -> Step
-        ensures { result ≡ step_of line.now self }
-    {
-        let at = self.at;
-        let state = self.state;
-        let g = offer_next(line, at, state);
-        match g {
-            Offer::Part { item, start, len } => {
-                let n = Cursor {
-                    at: start + len,
-                    state: after(state, item),
-                };
-                Step { offer: g, next: n }
-            }
-            Offer::Refused {
-                number: _,
-                place: _,
-            } => Step {
-                offer: g,
-                next: self,
-            },
-            Offer::End => Step {
-                offer: g,
-                next: self,
+        Cursor {
+            at: 0,
+            state: State {
+                phase: Phase::First,
+                verb: 0,
+                seen: [false; 13],
+                count: 0,
             },
         }
+    }
+
+    // What the next term of a line gives: a part, none at the line's end, or the line's refusal.
+    fn offer(self, line: &[u8]) -> Result<Option<Offered>, Refusal>
+        ensures { result ≡ offer_of line.now self.at self.state }
+    {
+        let state = self.state;
+        let Some(term) = terms::term_at(line, self.at) else {
+            return offer_end(state.phase, line.len());
+        };
+        match decide_in(&line[term.at..], term.len, state) {
+            Ok(item) => Ok(Some(Offered { item, term })),
+            Err(number) => {
+                let end = term.at + term.len;
+                let past = past_start(&line[term.at..end], state.phase, state.verb, number);
+                Err(Refusal {
+                    number,
+                    place: term.at + past,
+                })
+            }
+        }
+    }
+
+    // The same, and moves past a part; after a refusal, and at the line's end, the cursor is as it was.
+    pub fn next(&mut self, line: &[u8]) -> Result<Option<Offered>, Refusal>
+        ensures { step result self.new ≡ step_of line.now self.old }
+    {
+        let offer = self.offer(line)?;
+        if let Some(part) = offer {
+            self.state = after(self.state, part.item);
+            self.at = part.term.at + part.term.len;
+        }
+        Ok(offer)
     }
 }
 
 // ---- records
 
-fn high(n: usize) -> u8
-    requires { n < 65536 }
-    ensures { result ≡ n / 256 }
+// A part of the line by its position and length, 2 bytes each, high first.
+fn part_bytes(s: Span) -> [u8; 4]
+    requires { (s.at < 65536) × (s.len < 65536) }
+    ensures { result ≡ field_bytes (part s) }
 {
-    (n / 256) as u8
+    let [at, at_low] = text::high_low(s.at as u16);
+    let [len, len_low] = text::high_low(s.len as u16);
+    [at, at_low, len, len_low]
 }
 
-fn low(n: usize) -> u8
-    ensures { result ≡ n % 256 }
-{
-    (n % 256) as u8
-}
+// Each writes a record at a place of the room, which `verdict` has past the room's end, and tells how many bytes the record has.
 
-// Each tells how many bytes the record has.
-
-// An option, or its argument: n bytes from a on.
-fn put_option(out: &mut [u8], at: usize, number: u8, a: usize, n: usize) -> usize
-    requires { (a < 65536) × (n < 65536) }
-    ensures { (result ≡ length (record_of (Shown.Argument number) a n)) × (out.new ≡ sets out.old at (record_of (Shown.Argument number) a n)) }
+// An option, or its argument.
+fn put_option(out: &mut [u8], at: usize, number: u8, argument: Span) -> usize
+    requires { (argument.at < 65536) × (argument.len < 65536) }
+    ensures { (result ≡ length (record_of (Shown.Argument number) argument.at argument.len)) × (out.new ≡ sets out.old at (record_of (Shown.Argument number) argument.at argument.len)) }
 {
-    let t = [2, number, high(a), low(a), high(n), low(n)];
-    text::copy(out, at, &t);
+    let [a, b, c, d] = part_bytes(argument);
+    text::copy(out, at, &[2, number, a, b, c, d]);
     words::record_len(2)
 }
 
@@ -483,233 +377,157 @@ fn put_mere(out: &mut [u8], at: usize, number: u8, e: usize) -> usize
     requires { e < 65536 }
     ensures { (result ≡ length (bytes_of (option_fields number (kind_of number) e))) × (out.new ≡ sets out.old at (bytes_of (option_fields number (kind_of number) e))) }
 {
-    let k = words::kind_of(number);
-    match k {
-        Kind::Mere => put_option(out, at, number, e, 0),
-        Kind::Keep => 0,
-        Kind::Level => 0,
-        Kind::Place => 0,
-        Kind::Entries => 0,
+    match words::kind_of(number) {
+        Kind::Mere => put_option(out, at, number, Span { at: e, len: 0 }),
+        Kind::Keep | Kind::Level | Kind::Place | Kind::Entries => 0,
     }
 }
 
-fn put_target(out: &mut [u8], at: usize, a: usize, n: usize) -> usize
-    requires { (a < 65536) × (n < 65536) }
-    ensures { (result ≡ length (record_of Shown.Target a n)) × (out.new ≡ sets out.old at (record_of Shown.Target a n)) }
+// The value in what stands after a name: after its operator, which has as many bytes as its number says; an absent one is empty, at the end.
+fn value_span(operator: u8, rest: Span) -> Span
+    requires { (rest.at ≤ 2048) × (rest.len ≤ 1024) }
+    ensures { result ≡ value_span operator rest.at rest.len }
 {
-    let t = [3, high(a), low(a), high(n), low(n)];
-    text::copy(out, at, &t);
-    words::record_len(3)
+    if operator == 0 {
+        return Span {
+            at: rest.at + rest.len,
+            len: 0,
+        };
+    }
+    let width = usize::from(operator);
+    Span {
+        at: rest.at + width,
+        len: rest.len.saturating_sub(width),
+    }
 }
 
-// A property: its name, m bytes from a on; its operator; its value, n bytes from v on.
-fn put_parts(
-    out: &mut [u8],
-    at: usize,
-    a: usize,
-    m: usize,
-    operator: u8,
-    v: usize,
-    n: usize,
-) -> usize
-    requires { (a < 65536) × (m < 65536) × (v < 65536) × (n < 65536) }
-    ensures { (result ≡ length (bytes_of (byte 4 ∷ part (span a m) ∷ byte operator ∷ part (span v n) ∷ []))) × (out.new ≡ sets out.old at (bytes_of (byte 4 ∷ part (span a m) ∷ byte operator ∷ part (span v n) ∷ []))) }
+// A property, by its name's length and its operator.
+fn put_property(out: &mut [u8], at: usize, m: usize, operator: u8, term: Span) -> usize
+    requires { (term.at ≤ 1024) × (term.len ≤ 1024) × (m ≤ 64) }
+    ensures { (result ≡ length (record_of (Shown.Property m operator) term.at term.len)) × (out.new ≡ sets out.old at (record_of (Shown.Property m operator) term.at term.len)) }
 {
-    let t = [
-        4,
-        high(a),
-        low(a),
-        high(m),
-        low(m),
+    let value = value_span(
         operator,
-        high(v),
-        low(v),
-        high(n),
-        low(n),
-    ];
-    text::copy(out, at, &t);
+        Span {
+            at: term.at + m,
+            len: term.len.saturating_sub(m),
+        },
+    );
+    let [a, b, c, d] = part_bytes(Span {
+        at: term.at,
+        len: m,
+    });
+    let [e, f, g, h] = part_bytes(value);
+    text::copy(out, at, &[4, a, b, c, d, operator, e, f, g, h]);
     words::record_len(4)
 }
 
-// a without b, and nothing where b is more.
-fn less(a: usize, b: usize) -> usize
-    ensures { result ≡ a - b }
-{
-    if a < b {
-        return 0;
-    }
-    a - b
-}
-
-// A property of n bytes from a on, by its name's length and its operator, which has as many bytes as its number says.
-fn put_property(out: &mut [u8], at: usize, m: usize, operator: u8, a: usize, n: usize) -> usize
-    requires { (a ≤ 1024) × (n ≤ 1024) × (m ≤ 64) }
-    ensures { (result ≡ length (record_of (Shown.Property m operator) a n)) × (out.new ≡ sets out.old at (record_of (Shown.Property m operator) a n)) }
-{
-    let e = a + m;
-    let k = less(n, m);
-    if operator == 0 {
-        return put_parts(out, at, a, m, operator, e + k, 0);
-    }
-    let o = operator as usize;
-    put_parts(out, at, a, m, operator, e + o, less(k, o))
-}
-
-// The record of a part of n bytes from a on.
-fn put_record(out: &mut [u8], at: usize, item: Shown, a: usize, n: usize) -> usize
-    requires { (a ≤ 1024) × (n ≤ 1024) × (name_size item ≤ 64) }
-    ensures { (result ≡ length (record_of item a n)) × (out.new ≡ sets out.old at (record_of item a n)) }
+// The record of a part that stands at a term.
+fn put_record(out: &mut [u8], at: usize, item: Shown, term: Span) -> usize
+    requires { (term.at ≤ 1024) × (term.len ≤ 1024) × (name_size item ≤ 64) }
+    ensures { (result ≡ length (record_of item term.at term.len)) × (out.new ≡ sets out.old at (record_of item term.at term.len)) }
 {
     match item {
         Shown::Verb(number) => {
-            let t = [1, number];
-            text::copy(out, at, &t);
+            text::copy(out, at, &[1, number]);
             words::record_len(1)
         }
-        Shown::Option(number) => put_mere(out, at, number, a + n),
-        Shown::Argument(number) => put_option(out, at, number, a, n),
-        Shown::Target => put_target(out, at, a, n),
-        Shown::Property { name, operator } => put_property(out, at, name, operator, a, n),
+        Shown::Option(number) => put_mere(out, at, number, term.at + term.len),
+        Shown::Argument(number) => put_option(out, at, number, term),
+        Shown::Target => {
+            let [a, b, c, d] = part_bytes(term);
+            text::copy(out, at, &[3, a, b, c, d]);
+            words::record_len(3)
+        }
+        Shown::Property { name, operator } => put_property(out, at, name, operator, term),
     }
 }
 
-// ---- a whole line
+// ---- a whole line; the line and the room stay two parameters, as `read` has them
 
 fn is_blank(line: &[u8]) -> bool
     ensures { result ≡ is_nil (terms_of line.now) }
 {
-    let f = terms::term_at(line, 0);
-    match f {
-        Found::Term { start: _, len: _ } => false,
-        Found::None => true,
-    }
+    terms::term_at(line, 0).is_none()
 }
 
 // The refusal of a line's terms, or how many bytes their records have; where they are not refused, the records stand at the room's start, as far as it goes.
-fn put_records(line: &[u8], out: &mut [u8]) -> Answer
+fn put_records(line: &[u8], out: &mut [u8]) -> Result<usize, Refusal>
     requires { length line.now ≤ 1024 }
-    ensures { (result ≡ total_from 0 (left line.now first_cursor)) × (verdict_in (left line.now first_cursor) ≡ Verdict.Fine → out.new ≡ sets out.old 0 (records_in (left line.now first_cursor))) }
+    ensures { (result ≡ total_from 0 (left line.now first_cursor)) × (verdict_in (left line.now first_cursor) ≡ Ok tt → out.new ≡ sets out.old 0 (records_in (left line.now first_cursor))) }
 {
-    let c = Cursor::begin();
-    let mut at = c.at;
-    let mut state = c.state;
+    let mut c = Cursor::begin();
     let mut w: usize = 0;
-    loop {
-        let g = offer_next(line, at, state);
-        match g {
-            Offer::End => return Answer::Wrote(w),
-            Offer::Refused { number, place } => return Answer::Refused { number, place },
-            Offer::Part { item, start, len } => {
-                w += put_record(out, w, item, start, len);
-                state = after(state, item);
-                at = start + len;
-            }
-        }
+    while let Some(part) = c.next(line)? {
+        w += put_record(out, w, part.item, part.term);
     }
+    Ok(w)
 }
 
 // The same of a whole line: its refusal, or how many bytes its records have.
-fn put_reading(line: &[u8], out: &mut [u8]) -> Answer
-    ensures { (result ≡ needed_in (reading_of line.now)) × (verdict_in (reading_of line.now) ≡ Verdict.Fine → out.new ≡ sets out.old 0 (bytes_in (reading_of line.now))) }
+fn put_reading(line: &[u8], out: &mut [u8]) -> Result<usize, Refusal>
+    ensures { (result ≡ needed_in (reading_of line.now)) × (verdict_in (reading_of line.now) ≡ Ok tt → out.new ≡ sets out.old 0 (bytes_in (reading_of line.now))) }
 {
-    let v = terms::lexical(line);
-    match v {
-        Verdict::Flawed { number, place } => Answer::Refused { number, place },
-        Verdict::Fine => {
-            if is_blank(line) {
-                text::put(out, 0, 6);
-                return Answer::Wrote(words::record_len(6));
-            }
-            put_records(line, out)
-        }
+    terms::lexical(line)?;
+    if is_blank(line) {
+        text::put(out, 0, 6);
+        return Ok(words::record_len(6));
     }
+    put_records(line, out)
 }
 
 // A line's refusal, or that it has none.
-pub fn verdict(line: &[u8]) -> Verdict
+pub fn verdict(line: &[u8]) -> Result<(), Refusal>
     ensures { result ≡ verdict_in (reading_of line.now) }
 {
-    let mut nowhere = [0u8; 0];
-    let a = put_reading(line, &mut nowhere);
-    match a {
-        Answer::Wrote(_) => Verdict::Fine,
-        Answer::Refused { number, place } => Verdict::Flawed { number, place },
-    }
+    put_reading(line, &mut [])?;
+    Ok(())
 }
 
 // A line's records, written at the start of the room; tells how many bytes they have. A refusal writes nothing: the records are held, at most 399 bytes, until the
 // whole line is read.
-pub fn read(line: &[u8], out: &mut [u8]) -> Answer
+pub fn read(line: &[u8], out: &mut [u8]) -> Result<usize, Refusal>
     ensures { (result ≡ answer_in (length out.old) (reading_of line.now)) × (out.new ≡ room_in out.old (reading_of line.now)) }
 {
     let mut held = [0u8; 399];
-    let a = put_reading(line, &mut held);
-    match a {
-        Answer::Refused { number, place } => Answer::Refused { number, place },
-        Answer::Wrote(n) => {
-            if out.len() < n {
-                return Answer::Refused {
-                    number: 19,
-                    place: 0,
-                };
-            }
-            text::copy(out, 0, &held[..n]);
-            Answer::Wrote(n)
-        }
+    let n = put_reading(line, &mut held)?;
+    if out.len() < n {
+        return Err(Refusal {
+            number: 19,
+            place: 0,
+        });
     }
+    text::copy(out, 0, &held[..n]);
+    Ok(n)
 }
 
 fn is_target(item: Shown) -> bool
     ensures { result ≡ is_target item }
 {
-    match item {
-        Shown::Verb(_) => false,
-        Shown::Option(_) => false,
-        Shown::Argument(_) => false,
-        Shown::Target => true,
-        Shown::Property {
-            name: _,
-            operator: _,
-        } => false,
-    }
+    matches!(item, Shown::Target)
 }
 
 // Where the target of a line that is not refused stands.
 fn first_target(line: &[u8]) -> Span
-    requires { verdict_in (left line.now first_cursor) ≡ Verdict.Fine }
+    requires { verdict_in (left line.now first_cursor) ≡ Ok tt }
     ensures { result ≡ target_in (left line.now first_cursor) }
 {
     let mut c = Cursor::begin();
-    loop {
-        let s = c.next(line);
-        let g = s.offer;
-        match g {
-            Offer::End => return Span { at: 0, len: 0 },
-            Offer::Refused {
-                number: _,
-                place: _,
-            } => return Span { at: 0, len: 0 },
-            Offer::Part { item, start, len } => {
-                if is_target(item) {
-                    return Span { at: start, len };
-                }
-                c = s.next;
-            }
+    while let Ok(Some(part)) = c.next(line) {
+        if is_target(part.item) {
+            return part.term;
         }
     }
+    Span { at: 0, len: 0 }
 }
 
 // Where the target stands: empty, at 0, where there is none or the line is refused.
 pub fn target_span(line: &[u8]) -> Span
     ensures { result ≡ target_in (reading_of line.now) }
 {
-    let v = verdict(line);
-    match v {
-        Verdict::Flawed {
-            number: _,
-            place: _,
-        } => Span { at: 0, len: 0 },
-        Verdict::Fine => first_target(line),
+    match verdict(line) {
+        Ok(()) => first_target(line),
+        Err(_) => Span { at: 0, len: 0 },
     }
 }
 
@@ -718,42 +536,38 @@ pub fn target<'a>(line: &'a [u8]) -> &'a [u8]
     ensures { result.now ≡ target_part line.now }
 {
     let s = target_span(line);
-    let at = s.at;
-    let n = s.len;
-    let end = at + n;
-    &line[at..end]
+    &line[s.at..s.at + s.len]
 }
 
 // ---- records that a lister makes
 
 // A refusal.
-pub fn put_refusal(out: &mut [u8], number: u8, place: u16) -> Answer
+pub fn put_refusal(out: &mut [u8], number: u8, place: u16) -> Result<usize, Refusal>
     ensures { (result ≡ fitted (length out.old) (refusal_record number place)) × (out.new ≡ filled out.old (refusal_record number place)) }
 {
     let size = words::record_len(5);
     if out.len() < size {
-        return Answer::Refused {
+        return Err(Refusal {
             number: 19,
             place: 0,
-        };
+        });
     }
-    let p = place as usize;
-    let t = [5, number, high(p), low(p)];
-    text::copy(out, 0, &t);
-    Answer::Wrote(size)
+    let [high, low] = text::high_low(place);
+    text::copy(out, 0, &[5, number, high, low]);
+    Ok(size)
 }
 
 // A cut.
-pub fn put_cut(out: &mut [u8]) -> Answer
+pub fn put_cut(out: &mut [u8]) -> Result<usize, Refusal>
     ensures { (result ≡ fitted (length out.old) cut_record) × (out.new ≡ filled out.old cut_record) }
 {
     let size = words::record_len(7);
     if out.len() < size {
-        return Answer::Refused {
+        return Err(Refusal {
             number: 19,
             place: 0,
-        };
+        });
     }
     text::put(out, 0, 7);
-    Answer::Wrote(size)
+    Ok(size)
 }

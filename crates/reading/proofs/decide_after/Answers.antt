@@ -1,7 +1,5 @@
 -- `reading::decide_after` meets its contract. Assumes nothing.
 use mathlib.Core.Path.{sym, ap, ◌∙◌}
-use lib.Seq.{length-take-le}
-use native.Mathlib.Omega.{arith}
 use Rattle.reading.specs.Cursor.{decided_of}
 use lib.ListN.{take}
 use Rattle.reading.proofs.Decisions.{after_topic, after_property, after_target}
@@ -11,9 +9,6 @@ pub returns-then-help : goal.returns-then-help
 returns-then-help c =
     let a = c.args in
     c.decide_property.ensures ∙ ap decided_of (after_topic a.help a.count (take a.n a.s.now) c.if-help.true)
-
-pub slice_bounds-t-end : goal.slice_bounds-t-end
-slice_bounds-t-end c = let a = c.args in sym (length-take-le a.n a.s.now (omega arith))
 
 pub returns-then-has_bare : goal.returns-then-has_bare
 returns-then-has_bare c =

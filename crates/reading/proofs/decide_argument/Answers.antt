@@ -1,16 +1,11 @@
 -- `reading::decide_argument` meets its contract. Assumes nothing.
 use mathlib.Core.Path.{sym, ap, ◌∙◌}
-use lib.Seq.{length-take-le}
-use native.Mathlib.Omega.{arith}
 use mathlib.Core.Bool.{Bool}
 use lib.ListN.{take}
 use Rattle.forms.specs.Answers.{are_entries_in}
 use Rattle.reading.specs.Shown.{argument_if}
 use Rattle.reading.proofs.Decisions.{argument_dash, argument_decided}
 use Rattle.reading.proofs.decide_argument.Goals as goal
-
-pub slice_bounds-t-end : goal.slice_bounds-t-end
-slice_bounds-t-end c = let a = c.args in sym (length-take-le a.n a.s.now (omega arith))
 
 pub returns-then-starts_bare : goal.returns-then-starts_bare
 returns-then-starts_bare c =
@@ -22,7 +17,7 @@ returns-in-Mere c =
     let k = c in
     let s = k in
     let a = s.args in
-    let d = sym k.kind_of-kind.ensures ∙ c.in-Mere.is in
+    let d = sym k.kind_of.ensures ∙ c.in-Mere.is in
     rw d at (argument_decided a.option (take a.n a.s.now) (sym s.starts_bare.ensures ∙ k.if-starts_bare.false))
 
 pub returns-in-Keep : goal.returns-in-Keep
@@ -30,7 +25,7 @@ returns-in-Keep c =
     let k = c in
     let s = k in
     let a = s.args in
-    let d = sym k.kind_of-kind.ensures ∙ c.in-Keep.is in
+    let d = sym k.kind_of.ensures ∙ c.in-Keep.is in
     c.argument_if.ensures ∙ ap (λ (x : Bool). argument_if x a.option) c.is_keep.ensures
     ∙ (rw d at (argument_decided a.option (take a.n a.s.now) (sym s.starts_bare.ensures ∙ k.if-starts_bare.false)))
 
@@ -39,7 +34,7 @@ returns-in-Level c =
     let k = c in
     let s = k in
     let a = s.args in
-    let d = sym k.kind_of-kind.ensures ∙ c.in-Level.is in
+    let d = sym k.kind_of.ensures ∙ c.in-Level.is in
     c.argument_if-in-Level.ensures ∙ ap (λ (x : Bool). argument_if x a.option) c.is_level.ensures
     ∙ (rw d at (argument_decided a.option (take a.n a.s.now) (sym s.starts_bare.ensures ∙ k.if-starts_bare.false)))
 
@@ -48,7 +43,7 @@ returns-in-Place c =
     let k = c in
     let s = k in
     let a = s.args in
-    let d = sym k.kind_of-kind.ensures ∙ c.in-Place.is in
+    let d = sym k.kind_of.ensures ∙ c.in-Place.is in
     c.argument_if-in-Place.ensures ∙ ap (λ (x : Bool). argument_if x a.option) c.is_place.ensures
     ∙ (rw d at (argument_decided a.option (take a.n a.s.now) (sym s.starts_bare.ensures ∙ k.if-starts_bare.false)))
 
@@ -58,6 +53,6 @@ returns-in-Entries c =
     let k = c in
     let s = k in
     let a = s.args in
-    let d = sym k.kind_of-kind.ensures ∙ c.in-Entries.is in
+    let d = sym k.kind_of.ensures ∙ c.in-Entries.is in
     c.argument_if-in-Entries.ensures ∙ ap (λ (x : Bool). argument_if x a.option) c.are_entries.ensures
     ∙ (rw d at (argument_decided a.option (take a.n a.s.now) (sym s.starts_bare.ensures ∙ k.if-starts_bare.false)))

@@ -1,7 +1,5 @@
 -- `reading::decide_property` meets its contract. Assumes nothing.
 use mathlib.Core.Path.{sym, ap, ◌∙◌}
-use lib.Seq.{length-take-le}
-use native.Mathlib.Omega.{arith}
 use Rattle.reading.specs.Shown.{by_shape}
 use Rattle.reading.specs.Cursor.{decided_of}
 use mathlib.Core.Bool.{Bool}
@@ -17,9 +15,6 @@ pub returns-then-count-ge32 : goal.returns-then-count-ge32
 returns-then-count-ge32 c =
     let a = c.args in
     property_many a.count (take a.n a.s.now) a.help c.if-count-ge32.true
-
-pub slice_bounds-topic_of-end : goal.slice_bounds-topic_of-end
-slice_bounds-topic_of-end c = let a = c.args in sym (length-take-le a.n a.s.now (omega arith))
 
 pub returns-then-help : goal.returns-then-help
 returns-then-help c =

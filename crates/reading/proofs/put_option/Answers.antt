@@ -6,8 +6,7 @@ use Rattle.reading.proofs.put_option.Goals as goal
 
 pub returns : goal.returns
 returns c =
-    let l = c in
-    let a = l.args in (
-      c.record_len.ensures ∙ sym (record_sized (shown.Argument a.number) a.a a.n),
-      rw (l.low-2.ensures, l.high-2.ensures, l.low.ensures, l.high.ensures) at c.copy.ensures,
+    let a = c.args in (
+      c.record_len.ensures ∙ sym (record_sized (shown.Argument a.number) a.argument.at a.argument.len),
+      rw c.part_bytes.ensures at c.copy.ensures,
     )

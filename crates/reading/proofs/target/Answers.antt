@@ -2,13 +2,13 @@
 use mathlib.Core.Path.{ap, ◌∙◌}
 use native.Mathlib.Omega.{arith}
 use Rattle.text.proofs.Slices.{part_between}
-use Rattle.reading.specs.declared.Span.{Span}
+use Rattle.terms.specs.declared.Span.{Span}
 use Rattle.reading.specs.Records.{part_at, target_part}
 use Rattle.reading.proofs.PartOrder.{target_within}
 use Rattle.reading.proofs.target.Goals as goal
 
-pub overflow_add-end : goal.overflow_add-end
-overflow_add-end c =
+pub overflow_add-result : goal.overflow_add-result
+overflow_add-result c =
     let t = c in
     let line = t.args.line.now in
     let x = ap (λ (s : Span). s.at) t.target_span-s.ensures in

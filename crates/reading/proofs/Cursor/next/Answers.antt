@@ -1,36 +1,37 @@
 -- `reading::Cursor::next` meets its contract. Assumes nothing.
 use mathlib.Core.Path.{sym, ap, ◌∙◌}
 use native.Mathlib.Omega.{arith}
+use Rattle.std.proofs.Common.{◌≡◌, Result, Option, Ok, Err, rules}
+use Rattle.text.specs.Room.{refusal_at}
+use Rattle.text.specs.declared.Refusal.{Refusal}
+use Rattle.reading.specs.declared.Offered.{Offered}
 use Rattle.reading.specs.Cursor.{cursor_after, step}
-use Rattle.reading.specs.declared.Offer.{Offer}
 use Rattle.reading.proofs.Steps.{offer_part, step_of_lem}
 use Rattle.reading.proofs.Cursor.next.Goals as goal
 
-pub overflow_add-n : goal.overflow_add-n
-overflow_add-n c =
+pub overflow_add-self : goal.overflow_add-self
+overflow_add-self c =
     let a = c.args in
-    let w = offer_part a.line.now a.self _ c.offer_next-g.ensures _ _ _ c.in-Part.is in
+    let w = offer_part a.line.now a.self.now _ c.offer.ensures _ _ _ (c.in_ok-offer.was ∙ ap Ok c.in-Some.is) in
     omega (arith, w.fits)
 
-pub after-requires : goal.after-requires
-after-requires c =
+pub after-self-requires : goal.after-self-requires
+after-self-requires c =
     let a = c.args in
-    (offer_part a.line.now a.self _ c.offer_next-g.ensures _ _ _ c.in-Part.is).room
+    (offer_part a.line.now a.self.now _ c.offer.ensures _ _ _ (c.in_ok-offer.was ∙ ap Ok c.in-Some.is)).room
 
-pub returns-in-Part : goal.returns-in-Part
-returns-in-Part c =
+pub returns-in-Some : goal.returns-in-Some
+returns-in-Some c =
     let a = c.args in
-    let g = c.offer_next-g in
-    rw c.after.ensures (sym (ap (λ (h : Offer). step h (cursor_after a.self h)) c.in-Part.is) ∙ step_of_lem a.line.now a.self _ g.ensures)
+    rw c.after-self.ensures (sym (ap (λ (h : Result (Option Offered) Refusal). step h (cursor_after a.self.now h)) (c.in_ok-offer.was ∙ ap Ok c.in-Some.is)) ∙ step_of_lem a.line.now a.self.now _ c.offer.ensures)
 
-pub returns-in-Refused : goal.returns-in-Refused
-returns-in-Refused c =
+pub returns-in_default : goal.returns-in_default
+returns-in_default c =
     let a = c.args in
-    let g = c.offer_next-g in
-    sym (ap (λ (h : Offer). step g.result (cursor_after a.self h)) c.in-Refused.is) ∙ step_of_lem a.line.now a.self _ g.ensures
+    rw c.in_default.is (sym (ap (λ (h : Result (Option Offered) Refusal). step h (cursor_after a.self.now h)) (c.in_ok-offer.was ∙ ap Ok c.in_default.is)) ∙ step_of_lem a.line.now a.self.now _ c.offer.ensures)
 
-pub returns-in-End : goal.returns-in-End
-returns-in-End c =
+pub returns-in_err-offer : goal.returns-in_err-offer
+returns-in_err-offer c =
     let a = c.args in
-    let g = c.offer_next-g in
-    sym (ap (λ (h : Offer). step g.result (cursor_after a.self h)) c.in-End.is) ∙ step_of_lem a.line.now a.self _ g.ensures
+    let r : c.from_residual.result ≡ Err (refusal_at c.in_err-offer.field-0.0.number c.in_err-offer.field-0.0.place) = search rules in
+    rw r (sym (ap (λ (h : Result (Option Offered) Refusal). step h (cursor_after a.self.now h)) c.in_err-offer.was) ∙ step_of_lem a.line.now a.self.now _ c.offer.ensures)
