@@ -1,6 +1,6 @@
 -- From segment to segment: what each piece of a path leads to. Assumes nothing.
 use mathlib.Core.Path.{◌≡◌, refl, ap, sym, ◌∙◌, subst}
-use Prim.Native.Nat.{ℕ, zero, suc, ◌+◌, ◌-◌, ◌<◌, ◌≤◌}
+use Prim.Native.Nat.{ℕ, ◌+◌, ◌-◌, ◌<◌, ◌≤◌}
 use native.Mathlib.Omega.{arith}
 use mathlib.Core.List.{List, [], ◌∷◌}
 use mathlib.Core.Bool.{Bool, true, false, cond}
@@ -18,10 +18,12 @@ use Rattle.forms.specs.declared.Piece.TheVariants as piece
 use Rattle.forms.specs.Targets.{Segment, here, above, child, children, segment_of, is_separator, tag_len}
 use Rattle.forms.specs.Answers.{piece_of, segment_text, segment_at}
 use Rattle.forms.proofs.SegmentLaws.{segment_text_lem, segment_within, parts_last, parts_more}
-use Rattle.tree.specs.Tree.{records, parent}
-use Rattle.tree.specs.Resolve.{nodes_from, is_named, named_under, Instances, nodes, unresolved, or_none, starred, segment_step, along}
-use Rattle.tree.specs.Steps.{first_of, segments_from, along_from}
+use Rattle.tree.specs.Tree.{parent}
+use Rattle.tree.specs.Resolve.{named_under, Instances, nodes, unresolved, or_none, starred, segment_step, along}
+use Rattle.tree.specs.Steps.{segments_from, along_from}
 use Rattle.forms.proofs.FormCases.{segment_from}
+use Rattle.std.proofs.Common.{Some, None}
+use Rattle.std.proofs.Common as std
 
 -- ---- a segment, and those after it
 
@@ -50,12 +52,12 @@ module _ (text t : List ℕ) (n at : ℕ) where
 
 -- ---- what a piece says of its segment
 
-Says : ℕ → Option Segment → Piece → Type 0
-Says l o (piece.Here len) = (o ≡ some here) × (len ≡ l)
-Says l o (piece.Above len) = (o ≡ some above) × (len ≡ l)
-Says l o (piece.Child len tag i) = (a : List ℕ) × (o ≡ some (child a i)) × (len ≡ l) × (tag ≡ length a)
-Says l o (piece.Children len tag) = (a : List ℕ) × (o ≡ some (children a)) × (len ≡ l) × (tag ≡ length a)
-Says l o piece.No = o ≡ none
+Says : ℕ → Option Segment → std.Option Piece → Type 0
+Says l o (Some (piece.Here len)) = (o ≡ some here) × (len ≡ l)
+Says l o (Some (piece.Above len)) = (o ≡ some above) × (len ≡ l)
+Says l o (Some (piece.Child len tag i)) = (a : List ℕ) × (o ≡ some (child a i)) × (len ≡ l) × (tag ≡ length a)
+Says l o (Some (piece.Children len tag)) = (a : List ℕ) × (o ≡ some (children a)) × (len ≡ l) × (tag ≡ length a)
+Says l o None = o ≡ none
 
 piece_says : (l : ℕ) (o : Option Segment) → Says l o (piece_of l o)
 unfolding Says
@@ -89,86 +91,61 @@ tag_in_lem text a at tag e l =
       omega arith,
     )
 
--- ---- the first of the nodes that are found
-
--- no node that is found is the root
-nodes_some : (f : ℕ → Bool) (k m : ℕ) → first_of (nodes_from f (suc k) m) ≡ 0 → nodes_from f (suc k) m ≡ []
-unfolding nodes_from
-nodes_some f k zero e = refl
-nodes_some f k (suc m) e = go (f (suc k)) e (nodes_some f (suc k) m)
-  where
-    go : (b : Bool) → first_of (cond b (suc k ∷ nodes_from f (suc (suc k)) m) (nodes_from f (suc (suc k)) m)) ≡ 0
-        → (first_of (nodes_from f (suc (suc k)) m) ≡ 0 → nodes_from f (suc (suc k)) m ≡ [])
-        → cond b (suc k ∷ nodes_from f (suc (suc k)) m) (nodes_from f (suc (suc k)) m) ≡ []
-    go true q ih = absurd (omega arith)
-    go false q ih = ih q
-
-named_some : (t : List ℕ) (n : ℕ) (a : List ℕ) (i : ℕ) → first_of (named_under t n a i) ≡ 0 → named_under t n a i ≡ []
-unfolding named_under
-named_some t n a i e = nodes_some (is_named t n a i) 0 (records t) e
-
-no_first : (at : ℕ) (l : List ℕ) (f : ℕ → List ℕ → Instances) → (first_of l ≡ 0 → l ≡ []) → first_of l ≡ 0 → or_none at l f ≡ unresolved 18 at
-no_first at l f h e = ap (λ (x : List ℕ). or_none at x f) (h e)
-
-the_first : (at : ℕ) (l : List ℕ) (f : ℕ → Instances) (m : ℕ) → m ≡ first_of l → (m ≡ 0 → ⊥) → or_none at l (λ k ks. f k) ≡ f m
-the_first at [] f m e z = absurd (z e)
-the_first at (x ∷ l) f m e z = ap f (sym e)
-
 -- ---- each piece
 
-module _ (text : List ℕ) (at : ℕ) (p : Piece) (h : at ≤ length text) (r : p ≡ segment_at text at) where
+module _ (text : List ℕ) (at : ℕ) (p : std.Option Piece) (h : at ≤ length text) (r : p ≡ segment_at text at) where
   said : Says (length (segment_text text at)) (segment_of (segment_text text at)) p
   unfolding segment_at
   said = subst (Says (length (segment_text text at)) (segment_of (segment_text text at))) (sym r) (piece_says (length (segment_text text at)) (segment_of (segment_text text at)))
 
-  said_as : (q : Piece) → p ≡ q → Says (length (segment_text text at)) (segment_of (segment_text text at)) q
+  said_as : (q : std.Option Piece) → p ≡ q → Says (length (segment_text text at)) (segment_of (segment_text text at)) q
   said_as q e = subst (Says (length (segment_text text at)) (segment_of (segment_text text at))) e said
 
-  is_here_at : (len : ℕ) → p ≡ piece.Here len → (segment_of (segment_text text at) ≡ some here) × (len ≡ length (segment_text text at))
+  is_here_at : (len : ℕ) → p ≡ Some (piece.Here len) → (segment_of (segment_text text at) ≡ some here) × (len ≡ length (segment_text text at))
   unfolding Says
-  is_here_at len q = said_as (piece.Here len) q
+  is_here_at len q = said_as (Some (piece.Here len)) q
 
-  is_above_at : (len : ℕ) → p ≡ piece.Above len → (segment_of (segment_text text at) ≡ some above) × (len ≡ length (segment_text text at))
+  is_above_at : (len : ℕ) → p ≡ Some (piece.Above len) → (segment_of (segment_text text at) ≡ some above) × (len ≡ length (segment_text text at))
   unfolding Says
-  is_above_at len q = said_as (piece.Above len) q
+  is_above_at len q = said_as (Some (piece.Above len)) q
 
   -- a child's tag stands at the segment's place
-  is_child_at : (len tag i : ℕ) → p ≡ piece.Child len tag i
+  is_child_at : (len tag i : ℕ) → p ≡ Some (piece.Child len tag i)
       → (segment_of (segment_text text at) ≡ some (child (take tag (drop at text)) i)) × (len ≡ length (segment_text text at)) × (tag ≤ len)
   unfolding Says Tagged
   is_child_at len tag i q =
-      let c = said_as (piece.Child len tag i) q in
+      let c = said_as (Some (piece.Child len tag i)) q in
       let g = tag_in_lem text c.0 at tag (tag_of (segment_text text at) (child c.0 i) c.1) c.3 in
       let l = g.1 in
       let e = c.2 in
       (c.1 ∙ ap (λ (a : List ℕ). some (child a i)) (sym g.0), e, omega arith)
 
-  is_star_at : (len tag : ℕ) → p ≡ piece.Children len tag
+  is_star_at : (len tag : ℕ) → p ≡ Some (piece.Children len tag)
       → (segment_of (segment_text text at) ≡ some (children (take tag (drop at text)))) × (len ≡ length (segment_text text at)) × (tag ≤ len)
   unfolding Says Tagged
   is_star_at len tag q =
-      let c = said_as (piece.Children len tag) q in
+      let c = said_as (Some (piece.Children len tag)) q in
       let g = tag_in_lem text c.0 at tag (tag_of (segment_text text at) (children c.0) c.1) c.3 in
       let l = g.1 in
       let e = c.2 in
       (c.1 ∙ ap (λ (a : List ℕ). some (children a)) (sym g.0), e, omega arith)
 
-  pub here_within : (len : ℕ) → p ≡ piece.Here len → at + len ≤ length text
+  pub here_within : (len : ℕ) → p ≡ Some (piece.Here len) → at + len ≤ length text
   here_within len q = segment_within text at len (is_here_at len q).1 h
 
-  pub above_within : (len : ℕ) → p ≡ piece.Above len → at + len ≤ length text
+  pub above_within : (len : ℕ) → p ≡ Some (piece.Above len) → at + len ≤ length text
   above_within len q = segment_within text at len (is_above_at len q).1 h
 
-  pub child_within : (len tag i : ℕ) → p ≡ piece.Child len tag i → at + len ≤ length text
+  pub child_within : (len tag i : ℕ) → p ≡ Some (piece.Child len tag i) → at + len ≤ length text
   child_within len tag i q = segment_within text at len (is_child_at len tag i q).1 h
 
-  pub tag_within : (len tag i : ℕ) → p ≡ piece.Child len tag i → at + tag ≤ length text
+  pub tag_within : (len tag i : ℕ) → p ≡ Some (piece.Child len tag i) → at + tag ≤ length text
   tag_within len tag i q =
       let w = child_within len tag i q in
       let l = (is_child_at len tag i q).2 in
       omega arith
 
-  pub star_within : (len tag : ℕ) → p ≡ piece.Children len tag → at + tag ≤ length text
+  pub star_within : (len tag : ℕ) → p ≡ Some (piece.Children len tag) → at + tag ≤ length text
   star_within len tag q =
       let w = segment_within text at len (is_star_at len tag q).1 h in
       let l = (is_star_at len tag q).2 in
@@ -181,37 +158,34 @@ module _ (text : List ℕ) (at : ℕ) (p : Piece) (h : at ≤ length text) (r : 
         along_step text t n at h ∙ ap (λ (q : Option Segment). segment_step t n at q (λ m. along_from text t m (at + length (segment_text text at) + 1))) e
         ∙ ap (λ (i : ℕ). segment_step t n at o (λ m. along_from text t m (at + i + 1))) (sym l)
 
-    pub follow_here : (len : ℕ) (f : Instances) → p ≡ piece.Here len → f ≡ along_from text t n (at + len + 1) → f ≡ along_from text t n at
+    pub follow_here : (len : ℕ) (f : Instances) → p ≡ Some (piece.Here len) → f ≡ along_from text t n (at + len + 1) → f ≡ along_from text t n at
     follow_here len f q v = let w = is_here_at len q in v ∙ sym (by (some here) len w.0 w.1)
 
-    pub follow_root : (len : ℕ) → p ≡ piece.Above len → n ≡ 0 → unresolved 17 at ≡ along_from text t n at
+    pub follow_root : (len : ℕ) → p ≡ Some (piece.Above len) → n ≡ 0 → unresolved 17 at ≡ along_from text t n at
     follow_root len q z = let w = is_above_at len q in sym (by (some above) len w.0 w.1 ∙ simp (eq-eqb n 0 z))
 
-    pub follow_above : (len m : ℕ) (f : Instances) → p ≡ piece.Above len → (n ≡ 0 → ⊥) → m ≡ parent t n → f ≡ along_from text t m (at + len + 1) → f ≡ along_from text t n at
+    pub follow_above : (len m : ℕ) (f : Instances) → p ≡ Some (piece.Above len) → (n ≡ 0 → ⊥) → m ≡ parent t n → f ≡ along_from text t m (at + len + 1) → f ≡ along_from text t n at
     follow_above len m f q z e v =
         let w = is_above_at len q in
         v ∙ ap (λ (k : ℕ). along_from text t k (at + len + 1)) e ∙ sym (by (some above) len w.0 w.1 ∙ simp (ne_eqb n 0 z))
 
-    module _ (len tag i : ℕ) (q : p ≡ piece.Child len tag i) where
+    module _ (len tag i : ℕ) (q : p ≡ Some (piece.Child len tag i)) where
       step : along_from text t n at ≡ or_none at (named_under t n (take (at + tag - at) (drop at text)) i) (λ m ms. along_from text t m (at + len + 1))
       step =
           let w = is_child_at len tag i q in
           by (some (child (take tag (drop at text)) i)) len w.0 w.1
           ∙ ap (λ (a : List ℕ). or_none at (named_under t n a i) (λ m ms. along_from text t m (at + len + 1))) (sym (part_between text at tag))
 
-      pub follow_none : (m : ℕ) → m ≡ first_of (named_under t n (take (at + tag - at) (drop at text)) i) → m ≡ 0 → unresolved 18 at ≡ along_from text t n at
-      follow_none m e z =
-          let l = named_under t n (take (at + tag - at) (drop at text)) i in
-          sym (step ∙ no_first at l (λ k ks. along_from text t k (at + len + 1)) (named_some t n (take (at + tag - at) (drop at text)) i) (sym e ∙ z))
+      pub follow_none : named_under t n (take (at + tag - at) (drop at text)) i ≡ [] → unresolved 18 at ≡ along_from text t n at
+      follow_none e = sym (step ∙ ap (λ (l : List ℕ). or_none at l (λ m ms. along_from text t m (at + len + 1))) e)
 
-      pub follow_child : (m : ℕ) (f : Instances) → m ≡ first_of (named_under t n (take (at + tag - at) (drop at text)) i) → (m ≡ 0 → ⊥)
+      pub follow_child : (m : ℕ) (f : Instances) → (more : List ℕ) × (named_under t n (take (at + tag - at) (drop at text)) i ≡ m ∷ more)
           → f ≡ along_from text t m (at + len + 1) → f ≡ along_from text t n at
-      follow_child m f e z v =
-          v ∙ sym (step ∙ the_first at (named_under t n (take (at + tag - at) (drop at text)) i) (λ k. along_from text t k (at + len + 1)) m e z)
+      follow_child m f e v = v ∙ sym (step ∙ ap (λ (l : List ℕ). or_none at l (λ k ks. along_from text t k (at + len + 1))) e.1)
 
-    pub follow_star : (len tag : ℕ) → p ≡ piece.Children len tag → starred t n at (take tag (drop at text)) ≡ along_from text t n at
+    pub follow_star : (len tag : ℕ) → p ≡ Some (piece.Children len tag) → starred t n at (take tag (drop at text)) ≡ along_from text t n at
     follow_star len tag q = let w = is_star_at len tag q in sym (by (some (children (take tag (drop at text)))) len w.0 w.1)
 
-    pub follow_no : p ≡ piece.No → unresolved 12 0 ≡ along_from text t n at
+    pub follow_no : p ≡ None → unresolved 12 0 ≡ along_from text t n at
     unfolding Says
-    follow_no q = sym (by none (length (segment_text text at)) (said_as piece.No q) refl)
+    follow_no q = sym (by none (length (segment_text text at)) (said_as None q) refl)

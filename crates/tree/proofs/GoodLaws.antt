@@ -11,11 +11,10 @@ use Rattle.text.specs.Bytes.{is_letter}
 use Rattle.text.specs.Lists.{all_of, any_of}
 use Rattle.text.proofs.Tests.{or_l, or_r, no_case, either}
 use Rattle.tree.specs.Tree.{parent_in, tag_len_in, twin, is_true, bad_form, bad_record, records, check_from, check_tree, record_at, parent, tag, number}
-use Rattle.tree.specs.declared.Checked.{Checked}
-use Rattle.tree.specs.declared.Checked.TheVariants.{Good, Bad}
 use Rattle.tree.proofs.CheckLaws.{any_nth}
+use Rattle.std.proofs.Common.{Result, Ok, Err}
 
-not_bad : (b : Bool) (p : ℕ) (x : Checked) → cond b (Bad p) x ≡ Good → (b ≡ false) × (x ≡ Good)
+not_bad : (b : Bool) (p : ℕ) (x : Result Unit ℕ) → cond b (Err p) x ≡ Ok tt → (b ≡ false) × (x ≡ Ok tt)
 not_bad true p x e = let z : ◌≡◌ {A = ℕ} 0 1 = cc in absurd (omega arith)
 not_bad false p x e = (refl, e)
 
@@ -27,7 +26,7 @@ none_at l i e = either (get_or l i false) (λ y. no_case (sym (any_nth l i y) �
 abbrev is_bad : List ℕ → ℕ → Bool
 is_bad t k = bad_record (take (22 * k) t) (drop (22 * k) t) k
 
-none_bad : (n : ℕ) (t : List ℕ) (k : ℕ) → check_from n t k ≡ Good → (j : ℕ) → j < n → is_bad t (k + j) ≡ false
+none_bad : (n : ℕ) (t : List ℕ) (k : ℕ) → check_from n t k ≡ Ok tt → (j : ℕ) → j < n → is_bad t (k + j) ≡ false
 unfolding check_from
 none_bad zero t k e j lt = absurd (omega arith)
 none_bad (suc n) t k e zero lt =
@@ -74,7 +73,7 @@ from_record t k one bad =
       alone = no_twin (take (22 * (k - 1)) t) (drop (22 * (k - 1)) t) (k - 1) bad;
     }
 
-module _ (t : List ℕ) (good : check_tree t ≡ Good) where
+module _ (t : List ℕ) (good : check_tree t ≡ Ok tt) where
   pub good_node : (k : ℕ) → 1 ≤ k → k ≤ records t → GoodNode t k
   unfolding check_tree record_at
   good_node k one here =

@@ -1,4 +1,5 @@
 pub mod CheckLaws
+pub mod RecordLaws
 pub mod GoodLaws
 pub mod MarkLaws
 pub mod UpLaws

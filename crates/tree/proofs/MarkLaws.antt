@@ -10,13 +10,16 @@ use borrow.Author.Tests.{eqb-true, ltb-false}
 use lib.Dec.{eqb}
 use lib.ListN.{length, get_or, take, drop, set, length-drop, length-set}
 use lib.Seq.{drop-drop, length-take-le, get_or-set_same}
+use Rattle.std.specs.List.{list_any}
+use Rattle.std.specs.Simd.{first_chunks}
 use Rattle.text.proofs.Tests.{and_l, and_r, either, no_case}
 use Rattle.text.proofs.SameTexts.{same_eq}
-use Rattle.text.proofs.Slices.{drop_take, part_from, get_d_part}
+use Rattle.text.proofs.Slices.{drop_take, get_d_part}
 use Rattle.tree.specs.Tree.{parent_in, tag_len_in, tag_in, number_in, same_node, twin_in, twin, bad_form}
 use Rattle.tree.specs.Marks.{mix_of, mark_of, other_mark_of, Marked}
 use Rattle.tree.proofs.CheckLaws.{cut_byte, lengths}
 use Rattle.tree.proofs.GoodLaws.{none_at}
+use Rattle.tree.proofs.RecordLaws.{tag_len_cut, form_cut, chunk_at, chunks_before, any_twin}
 
 -- what a record that is good by its own bytes has
 form_fits : (r : List ℕ) (k : ℕ) → bad_form r k ≡ false → (22 ≤ length r) × (1 ≤ tag_len_in r) × (tag_len_in r ≤ 16)
@@ -60,7 +63,7 @@ module _ (a b : List ℕ) (h : 22 ≤ length a) (k : 22 ≤ length b) (one : 1 �
 
 -- and by its 22 bytes alone
 module _ (m : ℕ) (r : List ℕ) (h : 22 ≤ m) (short : tag_len_in (take m r) ≤ 16) where
-  mix_cut : mix_of (take m r) ≡ mix_of r
+  pub mix_cut : mix_of (take m r) ≡ mix_of r
   unfolding mix_of
   mix_cut =
       let last = cut_byte m r h (3 + tag_len_in (take m r)) (omega arith) ∙ ap (λ (n : ℕ). get_or r (3 + n) 0) (cut_byte m r h 3 (omega arith)) in
@@ -110,26 +113,19 @@ still (x ∷ marks) zero (suc j) h = h
 still (x ∷ marks) (suc i) zero h = h
 still (x ∷ marks) (suc i) (suc j) h = still marks i j h
 
--- the record that the code looks at is `&t[p..]`
-module _ (t : List ℕ) (k p : ℕ) (x : Bool) (form : x ≡ bad_form (take (length t - p) (drop p t)) k) (good : x ≡ false) where
-  fits : (22 ≤ length (drop p t)) × (1 ≤ tag_len_in (drop p t)) × (tag_len_in (drop p t) ≤ 16)
-  fits = form_fits (drop p t) k (ap (λ (r : List ℕ). bad_form r k) (sym (part_from t p)) ∙ sym form ∙ good)
+-- the record that the code looks at begins at place p
+module _ (t : List ℕ) (k p : ℕ) (x : Bool) (form : x ≡ bad_form (drop p t) k) (good : x ≡ false) where
+  pub turn_fits : (22 ≤ length (drop p t)) × (1 ≤ tag_len_in (drop p t)) × (tag_len_in (drop p t) ≤ 16)
+  turn_fits = form_fits (drop p t) k (sym form ∙ good)
 
-  pub turn_fits : (22 ≤ length (take (length t - p) (drop p t))) × (tag_len_in (take (length t - p) (drop p t)) ≤ 16)
-  turn_fits = let f = form_fits (take (length t - p) (drop p t)) k (sym form ∙ good) in (f.0, f.2)
-
-  module _ (m : ℕ) (marks : List Bool) (e : p ≡ 22 * k) (mix : m ≡ mix_of (take (length t - p) (drop p t))) (known : Marked marks t k) where
-    mix_here : m ≡ mix_of (drop p t)
-    mix_here = mix ∙ ap mix_of (part_from t p)
-
+  module _ (m : ℕ) (marks : List Bool) (e : p ≡ 22 * k) (mix_here : m ≡ mix_of (drop p t)) (known : Marked marks t k) where
     lone : (f : ℕ → ℕ) → ((j : ℕ) → j < k → get_or marks (f (mix_of (drop (22 * j) t))) false ≡ true) → get_or marks (f m) false ≡ false
-        → twin (take p t) (take (length t - p) (drop p t)) ≡ false
-    lone f all missing =
-        ap (twin (take p t)) (part_from t p) ∙ no_mark t k p e fits f marks all (ap (λ (n : ℕ). get_or marks (f n) false) (sym mix_here) ∙ missing)
+        → twin (take p t) (drop p t) ≡ false
+    lone f all missing = no_mark t k p e turn_fits f marks all (ap (λ (n : ℕ). get_or marks (f n) false) (sym mix_here) ∙ missing)
 
     -- without one of its marks the record has no twin
-    pub turn_lone : (get_or marks (mark_of m) false ≡ false → twin (take p t) (take (length t - p) (drop p t)) ≡ false)
-        × (get_or marks (other_mark_of m) false ≡ false → twin (take p t) (take (length t - p) (drop p t)) ≡ false)
+    pub turn_lone : (get_or marks (mark_of m) false ≡ false → twin (take p t) (drop p t) ≡ false)
+        × (get_or marks (other_mark_of m) false ≡ false → twin (take p t) (drop p t) ≡ false)
     turn_lone = (lone mark_of (λ j l. (known.1 j l).0), lone other_mark_of (λ j l. (known.1 j l).1))
 
     -- and with both set it is one of those that are marked
@@ -155,3 +151,29 @@ module _ (t : List ℕ) (k p : ℕ) (x : Bool) (form : x ≡ bad_form (take (len
 
         each : (j : ℕ) → j < k + 1 → both (mix_of (drop (22 * j) t))
         each j l = ⊎_elim (new j) (old j) (eq-or-lt_of_le (omega arith))
+
+-- ---- the same, as the code has it: the record after k others is 22 bytes
+
+module _ (t : List ℕ) (rs : List (List ℕ)) (k : ℕ) (whole : rs ≡ first_chunks 22 (length t / 22) t) (h : k < length t / 22) where
+  turn_bytes : get_or rs k [] ≡ take 22 (drop (22 * k) t)
+  turn_bytes = ap (λ (l : List (List ℕ)). get_or l k []) whole ∙ chunk_at (length t / 22) k t h
+
+  turn_long : 22 ≤ length (drop (22 * k) t)
+  turn_long = omega (arith, length-drop (22 * k) t)
+
+  pub turn_form : (x : Bool) → bad_form (get_or rs k []) k ≡ x → x ≡ bad_form (drop (22 * k) t) k
+  turn_form x e = sym e ∙ ap (λ (r : List ℕ). bad_form r k) turn_bytes ∙ form_cut (drop (22 * k) t) k turn_long
+
+  -- r is what the code goes on with
+  module _ (short : tag_len_in (drop (22 * k) t) ≤ 16) (r : List ℕ) (same : r ≡ get_or rs k []) where
+    pub turn_mix : (m : ℕ) → m ≡ mix_of r → m ≡ mix_of (drop (22 * k) t)
+    turn_mix m e = e ∙ ap mix_of (same ∙ turn_bytes) ∙ mix_cut 22 (drop (22 * k) t) (omega arith) (omega (arith, tag_len_cut (drop (22 * k) t)))
+
+    pub turn_twin : (y : Bool) → y ≡ list_any (λ (a : List ℕ). same_node a r) (take k rs) → y ≡ twin (take (22 * k) t) (drop (22 * k) t)
+    unfolding twin
+    turn_twin y e =
+        let n : length (take (22 * k) t) / 22 ≡ k = omega (arith, length-take-le (22 * k) t (omega arith)) in
+        e ∙ ap (λ (b : List ℕ). list_any (λ (a : List ℕ). same_node a b) (take k rs)) (same ∙ turn_bytes)
+        ∙ ap (λ (l : List (List ℕ)). list_any (λ (a : List ℕ). same_node a (take 22 (drop (22 * k) t))) l) (ap (take k) whole ∙ chunks_before (length t / 22) k t (omega arith))
+        ∙ any_twin k t (drop (22 * k) t) (omega arith) turn_long short
+        ∙ ap (λ (i : ℕ). twin_in i (take (22 * k) t) (drop (22 * k) t)) (sym n)

@@ -27,8 +27,6 @@ use Rattle.words.specs.Words.{session_name}
 use Rattle.forms.specs.Targets.{is_separator, tag_len, is_tag_len, is_numbered, is_starred, is_segment, are_segments, Segment, child, segment_of, Target, path, segments_of, path_of, target_of}
 use Rattle.reach.specs.declared.Form.TheVariants as form
 use Rattle.reach.specs.Reach.{reach_of}
-use Rattle.tree.specs.declared.Checked.{Checked}
-use Rattle.tree.specs.declared.Checked.TheVariants.{Good}
 use Rattle.tree.specs.declared.Resolved.TheVariants as resolved
 use Rattle.tree.specs.Tree.{parent_in, tag_len_in, tag_in, number_in, same_node, twin_in, twin, records, check_tree, record_at, parent, tag, number}
 use Rattle.tree.specs.Path.{segment, path_up, full_path}
@@ -38,6 +36,7 @@ use Rattle.tree.proofs.CheckLaws.{cut_byte}
 use Rattle.tree.proofs.GoodLaws.{good_node, good_length, byte_of}
 use Rattle.tree.proofs.UpLaws.{length_tag}
 use Rattle.forms.proofs.SegmentBytes.{nil_segment}
+use Rattle.std.proofs.Common.{Result, Ok}
 
 -- ---- no two nodes of a good tree are the same
 
@@ -66,7 +65,7 @@ module _ (m : ℕ) (r : List ℕ) (h : 22 ≤ m) (short : tag_len_in r ≤ 16) w
       ap (λ (s : List ℕ). eqb (parent_in (take m r)) (parent_in b) && (eqb (number_in (take m r)) (number_in b) && same_bytes s (tag_in b))) tag_cut
       ∙ rw (cut_byte m r h 1 (omega arith), cut_byte m r h 2 (omega arith), cut_byte m r h 20 (omega arith), cut_byte m r h 21 (omega arith))
 
-module _ (t : List ℕ) (good : check_tree t ≡ Good) where
+module _ (t : List ℕ) (good : check_tree t ≡ Ok tt) where
   -- an earlier node is another node
   earlier : (i k : ℕ) → 1 ≤ i → i < k → k ≤ records t → same_node (record_at t i) (record_at t k) ≡ false
   unfolding twin record_at
@@ -123,7 +122,7 @@ nodes_one f k (suc m) j a b e u = ⊎_elim (λ (q : k ≡ j). first q) (λ (q : 
     later : k < j → nodes_from f (suc k) m ≡ j ∷ [] → cond (f k) (k ∷ nodes_from f (suc k) m) (nodes_from f (suc k) m) ≡ j ∷ []
     later q ih = either (f k) (λ h. absurd (let z = u k (omega arith) (omega arith) h in omega arith)) (λ h. rw h ih)
 
-pub named_alone : (t : List ℕ) → check_tree t ≡ Good → (k : ℕ) → 1 ≤ k → k ≤ records t → named_under t (parent t k) (tag t k) (number t k) ≡ k ∷ []
+pub named_alone : (t : List ℕ) → check_tree t ≡ Ok tt → (k : ℕ) → 1 ≤ k → k ≤ records t → named_under t (parent t k) (tag t k) (number t k) ≡ k ∷ []
 unfolding named_under
 named_alone t good k one here =
     nodes_one (is_named t (parent t k) (tag t k) (number t k)) 1 (records t) k one (omega arith) (itself t good k) (λ i a b e. alone t good i k a (omega arith) one here e)
@@ -217,7 +216,7 @@ one_more t ws s m k p rest e h =
     let y : p + length (each 47 ws) + length s + 1 ≡ p + length (each 47 (ws ++ (s ∷ []))) = omega (arith, ap length (each_append 47 ws s), length-append (each 47 ws) (47 ∷ s)) in
     ap (along t 0 p) (append_assoc ws (s ∷ []) rest) ∙ e ∙ h ∙ ap (λ (i : ℕ). along t k i rest) y
 
-module _ (t : List ℕ) (good : check_tree t ≡ Good) (byte : (i : ℕ) → get_or t i 0 ≤ 255) where
+module _ (t : List ℕ) (good : check_tree t ≡ Ok tt) (byte : (i : ℕ) → get_or t i 0 ≤ 255) where
   number_most : (k : ℕ) → number t k ≤ 65535
   number_most k =
       omega (arith, byte_of t k (22 * (k - 1)) refl 20, byte_of t k (22 * (k - 1)) refl 21, byte (22 * (k - 1) + 20), byte (22 * (k - 1) + 21))
@@ -326,9 +325,9 @@ no_ways : (t : List ℕ) (i : ℕ) → i ≡ 0 → length (segments_to t i) ≡ 
 unfolding segments_to ways_up
 no_ways t i z = ap (λ (j : ℕ). length (ways_up j t j)) z
 
-module _ (t : List ℕ) (good : check_tree t ≡ Good) (byte : (i : ℕ) → get_or t i 0 ≤ 255) (d : ℕ) (default : d ≤ records t) (k : ℕ) (here : k ≤ records t) where
+module _ (t : List ℕ) (good : check_tree t ≡ Ok tt) (byte : (i : ℕ) → get_or t i 0 ≤ 255) (d : ℕ) (default : d ≤ records t) (k : ℕ) (here : k ≤ records t) where
   in_good : (f : Instances) → in_tree (check_tree t) t d f ≡ f
-  in_good f = ap (λ (c : Checked). in_tree c t d f) good ∙ simp (le-ltb (records t) d default)
+  in_good f = ap (λ (c : Result Unit ℕ). in_tree c t d f) good ∙ simp (le-ltb (records t) d default)
 
   all_form : all_of is_segment (segments_to t k) ≡ true
   unfolding segments_to
@@ -385,7 +384,7 @@ module _ (t : List ℕ) (good : check_tree t ≡ Good) (byte : (i : ℕ) → get
 
   -- the same in the answer and in the list
   pub path_resolves : (room : List ℕ) → length (segments_to t k) ≤ 16 → 1 ≤ length room
-      → (resolve_of (length room) (full_path t k) t d ≡ resolved.Nodes 1) × (resolve_list room (full_path t k) t d ≡ wrote room (k ∷ []))
+      → (resolve_of (length room) (full_path t k) t d ≡ Ok (resolved.Nodes 1)) × (resolve_list room (full_path t k) t d ≡ wrote room (k ∷ []))
   unfolding resolve_of resolve_list
   path_resolves room few h = (
     ap (resolved_by (length room)) (path_found few) ∙ rw (le-leb 1 (length room) h),

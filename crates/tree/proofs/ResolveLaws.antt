@@ -15,12 +15,11 @@ use Rattle.text.specs.Bytes.{bytes, same_bytes}
 use Rattle.text.specs.Lists.{all_of}
 use Rattle.text.proofs.Tests.{and_l, and_r, and_in, no_case}
 use Rattle.forms.specs.Targets.{Segment, here, above, child, children, segment_of, Target, session, path, target_of}
-use Rattle.tree.specs.declared.Checked.{Checked}
-use Rattle.tree.specs.declared.Checked.TheVariants.{Good, Bad}
 use Rattle.tree.specs.Tree.{records, check_tree, record_at, parent, tag, number}
 use Rattle.tree.specs.Resolve.{nodes_from, tagged_in, named_in, is_tagged, is_named, tagged_under, named_under, Instances, session', nodes, unresolved, or_none, segment_step, along, in_tree, from, or_form, instances_of}
 use Rattle.tree.specs.Ways.{ascends}
 use Rattle.tree.proofs.GoodLaws.{good_node}
+use Rattle.std.proofs.Common.{Result, Ok, Err}
 
 -- ---- the nodes that pass a test
 
@@ -149,7 +148,7 @@ nodes_inside t f k (suc m) h = go (f k) (nodes_inside t f (suc k) m (omega arith
     go true ih = simp (le-leb k (records t) (omega arith), ih)
     go false ih = ih
 
-module _ (t : List ℕ) (good : check_tree t ≡ Good) where
+module _ (t : List ℕ) (good : check_tree t ≡ Ok tt) where
   Inside : Instances → Type 0
   Inside f = (ms : List ℕ) → f ≡ nodes ms → all_of (inside t) ms ≡ true
 
@@ -206,11 +205,11 @@ module _ (t : List ℕ) (good : check_tree t ≡ Good) where
   along_inside (s ∷ ss) n p ms h e = step_inside n p (segment_of s) (λ m. along t m (p + length s + 1) ss) ms h (λ m k q. along_inside ss m (p + length s + 1) ms k q) e
 
 -- what lies in a tree: the tree is good and its default target is a node
-in_tree_lem : (t : List ℕ) (d : ℕ) (f : Instances) (ms : List ℕ) (c : Checked) → in_tree c t d f ≡ nodes ms → (c ≡ Good) × (d ≤ records t) × (f ≡ nodes ms)
-in_tree_lem t d f ms (Bad p) e = absurd (let z : ◌≡◌ {A = ℕ} 0 1 = cc in omega arith)
-in_tree_lem t d f ms Good e = go (ltb (records t) d) refl e
+in_tree_lem : (t : List ℕ) (d : ℕ) (f : Instances) (ms : List ℕ) (c : Result Unit ℕ) → in_tree c t d f ≡ nodes ms → (c ≡ Ok tt) × (d ≤ records t) × (f ≡ nodes ms)
+in_tree_lem t d f ms (Err p) e = absurd (let z : ◌≡◌ {A = ℕ} 0 1 = cc in omega arith)
+in_tree_lem t d f ms (Ok u) e = go (ltb (records t) d) refl e
   where
-    go : (b : Bool) → ltb (records t) d ≡ b → cond b (unresolved 16 0) f ≡ nodes ms → (Good ≡ Good) × (d ≤ records t) × (f ≡ nodes ms)
+    go : (b : Bool) → ltb (records t) d ≡ b → cond b (unresolved 16 0) f ≡ nodes ms → (◌≡◌ {A = Result Unit ℕ} (Ok tt) (Ok tt)) × (d ≤ records t) × (f ≡ nodes ms)
     go true y q = absurd (let z : ◌≡◌ {A = ℕ} 0 1 = cc in omega arith)
     go false y q = (refl, ltb-false (records t) d y, q)
 

@@ -22,11 +22,12 @@ use Rattle.reach.specs.Forms.{is_of}
 use Rattle.reach.specs.Reach.{reach_of}
 use Rattle.reach.proofs.Far.{longest_only}
 use Rattle.reach.proofs.Longest.{longest}
-use Rattle.tree.specs.declared.Checked.{Checked}
-use Rattle.tree.specs.declared.Checked.TheVariants.{Good, Bad}
 use Rattle.tree.specs.declared.Resolved.TheVariants as resolved
 use Rattle.tree.specs.Tree.{records, parent, check_tree}
 use Rattle.tree.specs.Resolve.{tagged_under, named_under, Instances, session', nodes, unresolved, or_none, segment_step, along, in_tree, from, or_form, instances_of, resolved_by, resolve_of}
+use Rattle.text.proofs.Refusals.{same_number, same_place}
+use Rattle.std.proofs.Common.{Result, Ok, Err}
+use Rattle.text.specs.Room.{refusal_at}
 
 -- ---- a target is not refused as 12
 
@@ -67,9 +68,9 @@ along_not t n p (s ∷ r ∷ rs) e =
     (segment_some s (ap (λ (x : Bool). x || is_starred s) (and_l (is_segment s) (are_segments (r ∷ rs)) e)))
     (λ m. along_not t m (p + length s + 1) (r ∷ rs) (and_r (is_segment s) (are_segments (r ∷ rs)) e))
 
-tree_not : (c : Checked) (t : List ℕ) (d : ℕ) (f : Instances) → is_twelve f ≡ false → is_twelve (in_tree c t d f) ≡ false
-tree_not (Bad p) t d f e = refl
-tree_not Good t d f e = go (ltb (records t) d)
+tree_not : (c : Result Unit ℕ) (t : List ℕ) (d : ℕ) (f : Instances) → is_twelve f ≡ false → is_twelve (in_tree c t d f) ≡ false
+tree_not (Err p) t d f e = refl
+tree_not (Ok u) t d f e = go (ltb (records t) d)
   where
     go : (x : Bool) → is_twelve (cond x (unresolved 16 0) f) ≡ false
     go true = refl
@@ -81,33 +82,33 @@ target_not text t d =
     target_from (λ _ g. is_twelve (from t d g) ≡ false) (λ _ _. refl) (λ _ _. refl) (λ _ s _ e _. along_not t 0 1 (parts is_separator s) e)
     (λ s e _. along_not t d 0 (parts is_separator s) e) text
 
-twelve_not : (room : ℕ) (f : Instances) (p : ℕ) → is_twelve f ≡ false → resolved_by room f ≡ resolved.Refused 12 p → ⊥
+twelve_not : (room : ℕ) (f : Instances) (p : ℕ) → is_twelve f ≡ false → resolved_by room f ≡ Err (refusal_at 12 p) → ⊥
 twelve_not room session' p e h = let z : ◌≡◌ {A = ℕ} 0 1 = cc in omega arith
 twelve_not room (nodes ms) p e h = go (leb (length ms) room) h
   where
-    go : (x : Bool) → cond x (resolved.Nodes (length ms)) (resolved.Refused 19 0) ≡ resolved.Refused 12 p → ⊥
+    go : (x : Bool) → cond x (Ok (resolved.Nodes (length ms))) (Err (refusal_at 19 0)) ≡ Err (refusal_at 12 p) → ⊥
     go true h = let z : ◌≡◌ {A = ℕ} 0 1 = cc in omega arith
-    go false h = let z : ◌≡◌ {A = ℕ} 19 12 = cc in omega arith
-twelve_not room (unresolved n q) p e h = let z : n ≡ 12 = cc in no_case (sym (eq-eqb n 12 z) ∙ e)
+    go false h = let z : ◌≡◌ {A = ℕ} 19 12 = same_number h in omega arith
+twelve_not room (unresolved n q) p e h = let z : n ≡ 12 = same_number h in no_case (sym (eq-eqb n 12 z) ∙ e)
 
 -- ---- exactly where
 
 -- A TEXT THAT IS NO TARGET is refused as 12, at the end of its longest beginning; the empty text means the default target
-pub no_target : (room : ℕ) (text t : List ℕ) (d p : ℕ) → is_nil text ≡ false → is_of form.Target text ≡ false → Longest (is_of form.Target) text p → resolve_of room text t d ≡ resolved.Refused 12 p
+pub no_target : (room : ℕ) (text t : List ℕ) (d p : ℕ) → is_nil text ≡ false → is_of form.Target text ≡ false → Longest (is_of form.Target) text p → resolve_of room text t d ≡ Err (refusal_at 12 p)
 unfolding resolve_of instances_of
 no_target room [] t d p n e l = no_case n
 no_target room (b ∷ s) t d p n e l = go (target_of (b ∷ s)) e
   where
-    go : (o : Option Target) → is_some o ≡ false → resolved_by room (or_form (b ∷ s) o t d) ≡ resolved.Refused 12 p
-    go none e = ap (resolved.Refused 12) (longest_only (is_of form.Target) (b ∷ s) (reach_of form.Target (b ∷ s)) p (longest form.Target (b ∷ s)) l)
+    go : (o : Option Target) → is_some o ≡ false → resolved_by room (or_form (b ∷ s) o t d) ≡ Err (refusal_at 12 p)
+    go none e = ap (λ (p : ℕ). Err (refusal_at 12 p)) (longest_only (is_of form.Target) (b ∷ s) (reach_of form.Target (b ∷ s)) p (longest form.Target (b ∷ s)) l)
     go (some g) e = no_case e
 
 -- WHAT IS REFUSED AS 12 is no target, and the place is the end of its longest beginning
-pub twelve_at : (room : ℕ) (text t : List ℕ) (d p : ℕ) → resolve_of room text t d ≡ resolved.Refused 12 p → (is_of form.Target text ≡ false) × Longest (is_of form.Target) text p
+pub twelve_at : (room : ℕ) (text t : List ℕ) (d p : ℕ) → resolve_of room text t d ≡ Err (refusal_at 12 p) → (is_of form.Target text ≡ false) × Longest (is_of form.Target) text p
 unfolding resolve_of instances_of
 twelve_at room [] t d p h = absurd (twelve_not room (in_tree (check_tree t) t d (nodes (d ∷ []))) p (tree_not (check_tree t) t d (nodes (d ∷ [])) refl) h)
 twelve_at room (b ∷ s) t d p h = go (target_of (b ∷ s)) refl h
   where
-    go : (o : Option Target) → target_of (b ∷ s) ≡ o → resolved_by room (or_form (b ∷ s) o t d) ≡ resolved.Refused 12 p → (is_of form.Target (b ∷ s) ≡ false) × Longest (is_of form.Target) (b ∷ s) p
-    go none e h = let z : reach_of form.Target (b ∷ s) ≡ p = cc in (ap is_some e, rw (← z) (longest form.Target (b ∷ s)))
+    go : (o : Option Target) → target_of (b ∷ s) ≡ o → resolved_by room (or_form (b ∷ s) o t d) ≡ Err (refusal_at 12 p) → (is_of form.Target (b ∷ s) ≡ false) × Longest (is_of form.Target) (b ∷ s) p
+    go none e h = let z : reach_of form.Target (b ∷ s) ≡ p = same_place h in (ap is_some e, rw (← z) (longest form.Target (b ∷ s)))
     go (some g) e h = absurd (twelve_not room (in_tree (check_tree t) t d (from t d g)) p (tree_not (check_tree t) t d (from t d g) (target_not (b ∷ s) t d g e)) h)

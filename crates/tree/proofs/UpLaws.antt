@@ -7,49 +7,44 @@ use mathlib.Core.List.{List, [], ◌∷◌, ◌++◌}
 use mathlib.Core.Bool.{Bool, cond}
 use borrow.Author.Tests.{lt-ltb, le-ltb, ne_eqb}
 use lib.Dec.{eqb, eqb-suc-zero}
-use lib.ListN.{length, get_or, take, drop, set, length-append, length-drop}
-use lib.Seq.{sets, length-take-le, drop-drop}
+use lib.ListN.{length, take, drop, set, length-append, length-drop, length-take}
+use lib.Seq.{sets, length-take-le}
 use Rattle.text.specs.Decimal.{width, digits}
-use Rattle.text.specs.Room.{fitted, filled}
-use Rattle.text.specs.declared.Answer.TheVariants.{Wrote, Refused}
-use Rattle.text.proofs.Slices.{part_between}
+use Rattle.text.specs.Room.{fitted, filled, refusal_at}
 use Rattle.text.proofs.Writes.{sets_append, fitted_room, fitted_none, filled_none, filled_sets}
 use Rattle.text.proofs.Decimals.{width_between, length_digits}
-use Rattle.tree.specs.Tree.{tag_len_in, tag_in, records, check_tree, record_at, parent, tag, number}
+use Rattle.tree.specs.Tree.{parent_in, tag_len_in, tag_in, number_in, records, check_tree, record_at, parent, tag, number}
 use Rattle.tree.specs.Path.{segment, path_up, full_path, path_by, path_answer, path_room_by, path_room}
-use Rattle.tree.specs.declared.Checked.{Checked}
-use Rattle.tree.specs.declared.Checked.TheVariants.{Good, Bad}
-use Rattle.tree.proofs.GoodLaws.{good_node, good_whole, byte_of}
+use Rattle.tree.proofs.GoodLaws.{good_node, good_whole}
+use Rattle.tree.proofs.RecordLaws.{parent_cut, number_cut, tag_len_cut, tag_cut}
+use Rattle.std.proofs.Common.{Result, Ok, Err}
 
--- ---- the fields, as the code reads them
+-- ---- a node's record, as the code reads it
 
--- the record of node k starts at p
-module _ (t : List ℕ) (k r p : ℕ) (e : p ≡ 22 * (k - 1)) where
-  pub parent_read : r ≡ 256 * get_or t (p + 1) 0 + get_or t (p + 2) 0 → r ≡ parent t k
-  parent_read h = omega (arith, byte_of t k p e 1, byte_of t k p e 2)
+module _ (t : List ℕ) (k : ℕ) (good : check_tree t ≡ Ok tt) (one : 1 ≤ k) (here : k ≤ records t) (r : List ℕ) (e : r ≡ take 22 (record_at t k)) where
+  pub node_short : tag_len_in r ≤ 16
+  node_short = let g = good_node t good k one here in omega (arith, ap (λ (l : List ℕ). tag_len_in l) e, tag_len_cut (record_at t k), g.short)
 
-  pub tag_read : r ≡ 256 * 0 + get_or t (p + 3) 0 → r ≡ tag_len_in (record_at t k)
-  tag_read h = omega (arith, byte_of t k p e 3)
+  pub node_parent : (p : ℕ) → p ≡ parent_in r → p ≡ parent t k
+  node_parent p h = h ∙ ap (λ (l : List ℕ). parent_in l) e ∙ parent_cut (record_at t k)
 
-  pub number_read : r ≡ 256 * get_or t (p + 20) 0 + get_or t (p + 21) 0 → r ≡ number t k
-  number_read h = omega (arith, byte_of t k p e 20, byte_of t k p e 21)
+  pub node_lower : (p : ℕ) → p ≡ parent_in r → p < k
+  node_lower p h = let g = good_node t good k one here in omega (arith, node_parent p h, g.lower)
 
-  module _ (good : check_tree t ≡ Good) (one : 1 ≤ k) (here : k ≤ records t) where
-    pub parent_lower : r ≡ 256 * get_or t (p + 1) 0 + get_or t (p + 2) 0 → r < k
-    parent_lower h = let g = good_node t good k one here in omega (arith, parent_read h, g.lower)
-
-    pub tag_short : r ≡ 256 * 0 + get_or t (p + 3) 0 → r ≤ 16
-    tag_short h = let g = good_node t good k one here in omega (arith, tag_read h, g.short)
-
-pub node_whole : (t : List ℕ) (k : ℕ) → check_tree t ≡ Good → 1 ≤ k → k ≤ records t → 22 * k ≤ length t
-node_whole t k good one here = (good_node t good k one here).whole
+  pub node_segment : tag_in r ++ digits (number_in r) ≡ segment t k
+  unfolding segment
+  node_segment =
+      let g = good_node t good k one here in
+      ap (λ (l : List ℕ). tag_in l ++ digits (number_in l)) e
+      ∙ ap (λ (l : List ℕ). l ++ digits (number_in (take 22 (record_at t k)))) (tag_cut (record_at t k) g.short)
+      ∙ ap (λ (n : ℕ). tag t k ++ digits n) (number_cut (record_at t k))
 
 -- ---- segments
 
 pub digits_most : (m w : ℕ) → w ≡ length (digits m) → w ≤ 5
 digits_most m w h = omega (arith, length_digits m, width_between m)
 
-module _ (t : List ℕ) (k : ℕ) (good : check_tree t ≡ Good) (one : 1 ≤ k) (here : k ≤ records t) where
+module _ (t : List ℕ) (k : ℕ) (good : check_tree t ≡ Ok tt) (one : 1 ≤ k) (here : k ≤ records t) where
   pub length_tag : length (tag t k) ≡ tag_len_in (record_at t k)
   unfolding tag_in record_at
   length_tag =
@@ -64,31 +59,31 @@ module _ (t : List ℕ) (k : ℕ) (good : check_tree t ≡ Good) (one : 1 ≤ k)
   segment_most : length (segment t k) ≤ 21
   segment_most = let g = good_node t good k one here in omega (arith, length_segment, width_between (number t k), g.short)
 
-  pub segment_length : (n m w : ℕ) → n ≡ tag_len_in (record_at t k) → m ≡ number t k → w ≡ width m → 1 + n + w ≡ 1 + length (segment t k)
-  segment_length n m w e f g = let u : w ≡ width (number t k) = g ∙ ap width f in omega (arith, length_segment)
+-- a segment, as the code writes it
+pub tag_most : (r s : List ℕ) → s ≡ tag_in r → tag_len_in r ≤ 16 → length s ≤ 16
+unfolding tag_in
+tag_most r s e h = omega (arith, ap length e, length-take (tag_len_in r) (drop 4 r))
 
-  pub segment_place : (at n m w : ℕ) → n ≡ tag_len_in (record_at t k) → m ≡ number t k → w ≡ length (digits m) → at + 1 + n + w ≡ at + (1 + length (segment t k))
-  segment_place at n m w e f g = let u : w ≡ width (number t k) = g ∙ length_digits m ∙ ap width f in omega (arith, length_segment)
+module _ (r s : List ℕ) (n : ℕ) (e : s ≡ tag_in r) (f : n ≡ number_in r) where
+  segment_by : length (tag_in r ++ digits (number_in r)) ≡ length s + width n
+  segment_by = omega (arith, length-append (tag_in r) (digits (number_in r)), ap length e, length_digits (number_in r), ap width f)
 
-  tag_part : (p n : ℕ) → p ≡ 22 * (k - 1) → n ≡ tag_len_in (record_at t k) → take (p + 4 + n - (p + 4)) (drop (p + 4) t) ≡ tag t k
-  unfolding tag_in record_at
-  tag_part p n at e =
-      part_between t (p + 4) n
-      ∙ ap (λ (l : List ℕ). take n l) (sym (drop-drop 4 p t) ∙ ap (λ (i : ℕ). drop 4 (drop i t)) at)
-      ∙ ap (λ (i : ℕ). take i (drop 4 (drop (22 * (k - 1)) t))) e
+  pub segment_length : (w : ℕ) → w ≡ width n → 1 + length s + w ≡ 1 + length (tag_in r ++ digits (number_in r))
+  segment_length w g = omega (arith, segment_by)
+
+  pub segment_place : (at w : ℕ) → w ≡ length (digits n) → at + 1 + length s + w ≡ at + (1 + length (tag_in r ++ digits (number_in r)))
+  segment_place at w g = omega (arith, segment_by, length_digits n)
 
   -- the separator, the tag and the number, each stored after the other
-  pub segment_put : (d x y z : List ℕ) (at p n m : ℕ) → p ≡ 22 * (k - 1) → n ≡ tag_len_in (record_at t k) → m ≡ number t k → x ≡ set d at 47
-      → y ≡ sets x (at + 1) (take (p + 4 + n - (p + 4)) (drop (p + 4) t)) → z ≡ sets y (at + 1 + n) (digits m)
-      → z ≡ sets d at (47 ∷ segment t k)
-  unfolding segment
-  segment_put d x y z at p n m s e f u v w =
-      let q : at + 1 + n ≡ suc at + length (tag t k) = omega (arith, length_tag) in
-      let y' : y ≡ sets (set d at 47) (suc at) (tag t k) =
-      v ∙ ap (λ (l : List ℕ). sets x (at + 1) l) (tag_part p n s e) ∙ ap (λ (l : List ℕ). sets l (at + 1) (tag t k)) u ∙ ap (λ (i : ℕ). sets (set d at 47) i (tag t k)) (add-one at) in
-      w ∙ ap (λ (i : ℕ). sets y i (digits m)) q ∙ ap (λ (l : List ℕ). sets l (suc at + length (tag t k)) (digits m)) y'
-      ∙ ap (λ (i : ℕ). sets (sets (set d at 47) (suc at) (tag t k)) (suc at + length (tag t k)) (digits i)) f
-      ∙ sets_append (tag t k) (digits (number t k)) (set d at 47) (suc at)
+  pub segment_put : (d x y z : List ℕ) (at : ℕ) → x ≡ set d at 47 → y ≡ sets x (at + 1) s → z ≡ sets y (at + 1 + length s) (digits n)
+      → z ≡ sets d at (47 ∷ (tag_in r ++ digits (number_in r)))
+  segment_put d x y z at u v w =
+      let q : at + 1 + length s ≡ suc at + length s = omega arith in
+      let y' : y ≡ sets (set d at 47) (suc at) s = v ∙ ap (λ (l : List ℕ). sets l (at + 1) s) u ∙ ap (λ (i : ℕ). sets (set d at 47) i s) (add-one at) in
+      w ∙ ap (λ (i : ℕ). sets y i (digits n)) q ∙ ap (λ (l : List ℕ). sets l (suc at + length s) (digits n)) y'
+      ∙ sets_append s (digits n) (set d at 47) (suc at)
+      ∙ ap (λ (l : List ℕ). sets (set d at 47) (suc at) (l ++ digits n)) e
+      ∙ ap (λ (i : ℕ). sets (set d at 47) (suc at) (tag_in r ++ digits i)) f
 
 -- ---- the way up
 
@@ -97,7 +92,7 @@ unfolding path_up
 up_root zero t = refl
 up_root (suc f) t = refl
 
-module _ (t : List ℕ) (good : check_tree t ≡ Good) where
+module _ (t : List ℕ) (good : check_tree t ≡ Ok tt) where
   -- more steps than the node's number change nothing
   up_more : (f : ℕ) → ((g k : ℕ) → k ≤ f → k ≤ g → k ≤ records t → path_up f t k ≡ path_up g t k)
       → (g k : ℕ) → k ≤ suc f → k ≤ g → k ≤ records t → path_up (suc f) t k ≡ path_up g t k
@@ -124,7 +119,7 @@ module _ (t : List ℕ) (good : check_tree t ≡ Good) where
       ap (λ (b : Bool). cond b [] (path_up m t (parent t (suc m)) ++ (47 ∷ segment t (suc m)))) (eqb-suc-zero m)
       ∙ ap (λ (l : List ℕ). l ++ (47 ∷ segment t (suc m))) (up_fuel m (parent t (suc m)) (parent t (suc m)) (omega arith) (omega arith) (omega arith))
 
-module _ (t : List ℕ) (k p : ℕ) (good : check_tree t ≡ Good) (here : k ≤ records t) (e : p ≡ parent t k) where
+module _ (t : List ℕ) (k p : ℕ) (good : check_tree t ≡ Ok tt) (here : k ≤ records t) (e : p ≡ parent t k) where
   pub path_up_lem : 1 ≤ k → path_up k t k ≡ path_up p t p ++ (47 ∷ segment t k)
   path_up_lem one = path_step t good k one here ∙ ap (λ (q : ℕ). path_up q t q ++ (47 ∷ segment t k)) (sym e)
 
@@ -154,9 +149,6 @@ root_put t d k e = sym (ap (λ (q : ℕ). sets d 0 (path_up q t q)) e ∙ ap (se
 
 -- ---- the answer, case by case, and the room
 
-pub told_good : (t : List ℕ) (r : Checked) → r ≡ check_tree t → r ≡ Good → check_tree t ≡ Good
-told_good t r e g = sym e ∙ g
-
 full_root : (t : List ℕ) (k : ℕ) → k ≡ 0 → full_path t k ≡ 47 ∷ []
 unfolding full_path
 full_root t k e = ap (full_path t) e
@@ -166,41 +158,41 @@ unfolding full_path
 full_node t k e = simp (ne_eqb k 0 e)
 
 module _ (t : List ℕ) (k : ℕ) where
-  pub bad_answer : (room p : ℕ) (r : Checked) → r ≡ check_tree t → r ≡ Bad p → Refused 15 p ≡ path_answer room t k
+  pub bad_answer : (room p : ℕ) (r : Result Unit ℕ) → r ≡ check_tree t → r ≡ Err p → Err (refusal_at 15 p) ≡ path_answer room t k
   unfolding path_answer
-  bad_answer room p r e g = sym (ap (λ (c : Checked). path_by c room t k) (sym e ∙ g))
+  bad_answer room p r e g = sym (ap (λ (c : Result Unit ℕ). path_by c room t k) (sym e ∙ g))
 
-  pub bad_room : (room : List ℕ) (p : ℕ) (r : Checked) → r ≡ check_tree t → r ≡ Bad p → room ≡ path_room room t k
+  pub bad_room : (room : List ℕ) (p : ℕ) (r : Result Unit ℕ) → r ≡ check_tree t → r ≡ Err p → room ≡ path_room room t k
   unfolding path_room
-  bad_room room p r e g = sym (ap (λ (c : Checked). path_room_by c room t k) (sym e ∙ g))
+  bad_room room p r e g = sym (ap (λ (c : Result Unit ℕ). path_room_by c room t k) (sym e ∙ g))
 
-  module _ (good : check_tree t ≡ Good) where
+  module _ (good : check_tree t ≡ Ok tt) where
     good_answer : (room : ℕ) → k ≤ length t / 22 → path_answer room t k ≡ fitted room (full_path t k)
     unfolding path_answer
-    good_answer room h = ap (λ (c : Checked). path_by c room t k) good ∙ simp (le-ltb (records t) k (omega (arith, good_whole t good)))
+    good_answer room h = ap (λ (c : Result Unit ℕ). path_by c room t k) good ∙ simp (le-ltb (records t) k (omega (arith, good_whole t good)))
 
     good_room : (room : List ℕ) → k ≤ length t / 22 → path_room room t k ≡ filled room (full_path t k)
     unfolding path_room
-    good_room room h = ap (λ (c : Checked). path_room_by c room t k) good ∙ simp (le-ltb (records t) k (omega (arith, good_whole t good)))
+    good_room room h = ap (λ (c : Result Unit ℕ). path_room_by c room t k) good ∙ simp (le-ltb (records t) k (omega (arith, good_whole t good)))
 
-    pub none_answer : (room : ℕ) → length t / 22 < k → Refused 16 0 ≡ path_answer room t k
+    pub none_answer : (room : ℕ) → length t / 22 < k → Err (refusal_at 16 0) ≡ path_answer room t k
     unfolding path_answer
-    none_answer room h = sym (ap (λ (c : Checked). path_by c room t k) good ∙ simp (lt-ltb (records t) k (omega (arith, good_whole t good))))
+    none_answer room h = sym (ap (λ (c : Result Unit ℕ). path_by c room t k) good ∙ simp (lt-ltb (records t) k (omega (arith, good_whole t good))))
 
     pub none_room : (room : List ℕ) → length t / 22 < k → room ≡ path_room room t k
     unfolding path_room
-    none_room room h = sym (ap (λ (c : Checked). path_room_by c room t k) good ∙ simp (lt-ltb (records t) k (omega (arith, good_whole t good))))
+    none_room room h = sym (ap (λ (c : Result Unit ℕ). path_room_by c room t k) good ∙ simp (lt-ltb (records t) k (omega (arith, good_whole t good))))
 
-    pub small_root : (room : ℕ) → k ≤ length t / 22 → k ≡ 0 → room < 1 → Refused 19 0 ≡ path_answer room t k
+    pub small_root : (room : ℕ) → k ≤ length t / 22 → k ≡ 0 → room < 1 → Err (refusal_at 19 0) ≡ path_answer room t k
     small_root room h z l = sym (good_answer room h ∙ fitted_none room (full_path t k) (omega (arith, ap length (full_root t k z))))
 
     pub small_root_room : (room : List ℕ) → k ≤ length t / 22 → k ≡ 0 → length room < 1 → room ≡ path_room room t k
     small_root_room room h z l = sym (good_room room h ∙ filled_none room (full_path t k) (omega (arith, ap length (full_root t k z))))
 
-    pub root_answer : (room : ℕ) → k ≤ length t / 22 → k ≡ 0 → 1 ≤ room → Wrote 1 ≡ path_answer room t k
+    pub root_answer : (room : ℕ) → k ≤ length t / 22 → k ≡ 0 → 1 ≤ room → Ok 1 ≡ path_answer room t k
     root_answer room h z l =
         let e = ap length (full_root t k z) in
-        sym (good_answer room h ∙ fitted_room room (full_path t k) (omega arith) ∙ ap Wrote e)
+        sym (good_answer room h ∙ fitted_room room (full_path t k) (omega arith) ∙ ap Ok e)
 
     pub root_room : (room y : List ℕ) → k ≤ length t / 22 → k ≡ 0 → 1 ≤ length room → y ≡ set room 0 47 → y ≡ path_room room t k
     root_room room y h z l v =
@@ -208,16 +200,16 @@ module _ (t : List ℕ) (k : ℕ) where
         v ∙ filled_sets room (47 ∷ []) l ∙ ap (filled room) (sym e) ∙ sym (good_room room h)
 
     module _ (n : ℕ) (h : k ≤ length t / 22) (z : k ≡ 0 → ⊥) (e : n ≡ length (path_up k t k)) where
-      pub small_node : (room : ℕ) → room < n → Refused 19 0 ≡ path_answer room t k
+      pub small_node : (room : ℕ) → room < n → Err (refusal_at 19 0) ≡ path_answer room t k
       small_node room l = sym (good_answer room h ∙ fitted_none room (full_path t k) (omega (arith, ap length (full_node t k z))))
 
       pub small_node_room : (room : List ℕ) → length room < n → room ≡ path_room room t k
       small_node_room room l = sym (good_room room h ∙ filled_none room (full_path t k) (omega (arith, ap length (full_node t k z))))
 
-      pub node_answer : (room : ℕ) → n ≤ room → Wrote n ≡ path_answer room t k
+      pub node_answer : (room : ℕ) → n ≤ room → Ok n ≡ path_answer room t k
       node_answer room l =
           let q = ap length (full_node t k z) in
-          sym (good_answer room h ∙ fitted_room room (full_path t k) (omega arith) ∙ ap Wrote (q ∙ sym e))
+          sym (good_answer room h ∙ fitted_room room (full_path t k) (omega arith) ∙ ap Ok (q ∙ sym e))
 
       pub node_room : (room y : List ℕ) → n ≤ length room → y ≡ sets room 0 (path_up k t k) → y ≡ path_room room t k
       node_room room y l v =

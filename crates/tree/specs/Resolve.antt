@@ -1,16 +1,15 @@
 -- The instances that a target's text addresses in a tree, from a default target.
-use Rattle.std.specs.Prelude.{ℕ, zero, suc, ◌+◌, List, [], ◌∷◌, Bool, true, false, cond, ◌&&◌, length, ltb, leb, eqb}
+use Rattle.std.specs.Prelude.{ℕ, zero, suc, ◌+◌, List, [], ◌∷◌, Bool, true, false, cond, ◌&&◌, length, ltb, leb, eqb, Result, Ok, Err}
 use Rattle.std.proofs.Math.Option.{Option, none, some}
 use Rattle.text.specs.Bytes.{same_bytes}
-use Rattle.text.specs.Room.{filled}
+use Rattle.text.specs.Room.{filled, refusal_at}
 use Rattle.forms.specs.Targets.{Segment, here, above, child, children, segment_of, Target, session, path, target_of}
 use Rattle.reach.specs.declared.Form.TheVariants as form
 use Rattle.reach.specs.Reach.{reach_of}
-use Rattle.tree.specs.declared.Checked.{Checked}
-use Rattle.tree.specs.declared.Checked.TheVariants.{Good, Bad}
 use Rattle.tree.specs.declared.Resolved.{Resolved}
 use Rattle.tree.specs.declared.Resolved.TheVariants as resolved
 use Rattle.tree.specs.Tree.{parent_in, number_in, tag_in, records, check_tree, record_at, parent}
+use Rattle.text.specs.declared.Refusal.{Refusal}
 
 -- ---- children
 
@@ -73,9 +72,9 @@ along t n p (s ∷ ss) = segment_step t n p (segment_of s) (λ m. along t m (p +
 -- ---- resolving
 
 -- 15: tree malformed; 16: default target is no node
-abbrev pub in_tree : Checked → List ℕ → ℕ → Instances → Instances
-in_tree (Bad p) t d f = unresolved 15 p
-in_tree Good t d f = cond (ltb (records t) d) (unresolved 16 0) f
+abbrev pub in_tree : Result Unit ℕ → List ℕ → ℕ → Instances → Instances
+in_tree (Err p) t d f = unresolved 15 p
+in_tree (Ok u) t d f = cond (ltb (records t) d) (unresolved 16 0) f
 
 -- A path starts at the root with a leading separator, otherwise at the default target.
 abbrev pub from : List ℕ → ℕ → Target → Instances
@@ -95,17 +94,17 @@ instances_of (b ∷ s) t d = or_form (b ∷ s) (target_of (b ∷ s)) t d
 
 -- ---- the answer, and the lent list: node numbers at its start, its other places unchanged; 19 last
 
-abbrev pub resolved_by : ℕ → Instances → Resolved
-resolved_by room session' = resolved.Session
-resolved_by room (nodes ms) = cond (leb (length ms) room) (resolved.Nodes (length ms)) (resolved.Refused 19 0)
-resolved_by room (unresolved n p) = resolved.Refused n p
+abbrev pub resolved_by : ℕ → Instances → Result Resolved Refusal
+resolved_by room session' = Ok resolved.Session
+resolved_by room (nodes ms) = cond (leb (length ms) room) (Ok (resolved.Nodes (length ms))) (Err (refusal_at 19 0))
+resolved_by room (unresolved n p) = Err (refusal_at n p)
 
 abbrev pub list_by : List ℕ → Instances → List ℕ
 list_by room session' = room
 list_by room (nodes ms) = filled room ms
 list_by room (unresolved n p) = room
 
-unfoldable pub resolve_of : ℕ → List ℕ → List ℕ → ℕ → Resolved
+unfoldable pub resolve_of : ℕ → List ℕ → List ℕ → ℕ → Result Resolved Refusal
 resolve_of room text t d = resolved_by room (instances_of text t d)
 
 unfoldable pub resolve_list : List ℕ → List ℕ → List ℕ → ℕ → List ℕ

@@ -1,11 +1,9 @@
 -- The tree: house records, one byte of kind, then a body whose length the kind fixes. Kind 16, a node, has 21 bytes: parent (2, high byte first),
 -- tag length (1), tag padded with zeros (16), number (2, high first). Node 0 is the root and has no record; record i is node i.
-use Rattle.std.specs.Prelude.{ℕ, zero, suc, ◌+◌, ◌*◌, ◌/◌, ◌-◌, List, [], ◌∷◌, Bool, false, cond, not, ◌&&◌, ◌||◌, length, get_or, take, drop, ltb, eqb}
+use Rattle.std.specs.Prelude.{ℕ, zero, suc, ◌+◌, ◌*◌, ◌/◌, ◌-◌, List, [], ◌∷◌, Bool, false, cond, not, ◌&&◌, ◌||◌, length, get_or, take, drop, ltb, eqb, Result, Ok, Err}
 use Rattle.text.specs.Bytes.{same_bytes, is_letter}
 use Rattle.text.specs.Lists.{all_of, any_of}
 use Rattle.text.specs.Room.{be16}
-use Rattle.tree.specs.declared.Checked.{Checked}
-use Rattle.tree.specs.declared.Checked.TheVariants.{Good, Bad}
 
 -- ---- the fields of the record that a list begins with
 
@@ -74,13 +72,13 @@ abbrev pub records : List ℕ → ℕ
 records t = (length t + 21) / 22
 
 -- the first bad one of the n records that follow the first k, by its start; an empty tree is good
-unfoldable pub check_from : ℕ → List ℕ → ℕ → Checked
-check_from zero t k = Good
+unfoldable pub check_from : ℕ → List ℕ → ℕ → Result Unit ℕ
+check_from zero t k = Ok tt
 check_from (suc n) t k =
     let later = check_from n t (k + 1) in
-    cond (bad_record (take (22 * k) t) (drop (22 * k) t) k) (Bad (22 * k)) later
+    cond (bad_record (take (22 * k) t) (drop (22 * k) t) k) (Err (22 * k)) later
 
-unfoldable pub check_tree : List ℕ → Checked
+unfoldable pub check_tree : List ℕ → Result Unit ℕ
 check_tree t = check_from (records t) t 0
 
 -- ---- the nodes of a tree

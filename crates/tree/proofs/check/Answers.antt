@@ -1,59 +1,67 @@
-use mathlib.Core.Path.{sym}
+-- `tree::check` meets its contract.
+use mathlib.Core.Path.{◌≡◌, refl, ap, sym, ◌∙◌}
+use mathlib.Core.Bool.{true, false}
+use Prim.Native.Nat.{ℕ, ◌*◌}
 use native.Mathlib.Omega.{arith}
-use borrow.Author.Rules.{rules}
-use lib.Seq.{length-take-le}
-use Rattle.tree.proofs.CheckLaws.{check_start, check_again, stop_form, stop_twin, check_end}
-use Rattle.tree.proofs.MarkLaws.{turn_fits, turn_lone, turn_marked}
+use borrow.Author.Tests.{eqb-true, eqb-false}
+use lib.ListN.{length, take, drop}
+use Rattle.tree.specs.Tree.{twin}
+use Rattle.tree.proofs.CheckLaws.{check_start, check_again, stop_form, stop_twin, check_end, check_cut}
+use Rattle.tree.proofs.MarkLaws.{turn_fits, turn_lone, turn_marked, turn_form, turn_mix, turn_twin}
+use Rattle.tree.proofs.check.Goals.{else-marks-mark-via-then-marks-mark+then-marks-other+else-twin, else-marks-mark-via-then-marks-mark+else-marks-other, else-marks-mark-via-else-marks-mark}
 use Rattle.tree.proofs.check.Goals as goal
+use Rattle.std.proofs.Common.{Err}
 
-pub loop-p-init : goal.loop-p-init
-loop-p-init c = (omega arith, omega arith, check_start _, (omega arith, λ j h. absurd (omega arith)), c.node_len-size.ensures)
+pub loop-k-init : goal.loop-k-init
+loop-k-init c = (check_start _, (refl, λ j h. absurd (omega arith)))
 
-pub returns-then-bad_form : goal.returns-then-bad_form
-returns-then-bad_form c = search (stop_form, rules)
+pub returns-in_default : goal.returns-in_default
+returns-in_default c =
+    let t = c.args.t.now in
+    let l = c.loop-k in
+    let form = turn_form t _ l.k c.as_chunks.ensures.front (omega arith) true c.in_default.ensures in
+    stop_form t l.k _ true (omega arith) refl (omega arith) l.invariant.0 form refl
 
-pub mix-m-requires : goal.mix-m-requires
-mix-m-requires c =
-    let b = c in
-    let l = b in
-    turn_fits l.args.t.now l.loop-p.k l.loop-p.p _ b.bad_form.ensures c.if-bad_form.false
+pub returns-then-twin : goal.returns-then-twin
+returns-then-twin c =
+    let t = c.args.t.now in
+    let l = c.loop-k in
+    let whole = c.as_chunks.ensures.front in
+    let r = c.in-Some.ensures in
+    let form = turn_form t _ l.k whole (omega arith) false r.0 in
+    let short = (turn_fits t l.k _ false form refl).2 in
+    let pair = turn_twin t _ l.k whole (omega arith) short _ r.1 _ c.twin.ensures in
+    stop_twin t l.k _ false (omega arith) refl (omega arith) l.invariant.0 form _ refl pair c.if-twin.true
 
-pub slice_bounds-marked_twin-end : goal.slice_bounds-marked_twin-end
-slice_bounds-marked_twin-end c = sym (length-take-le _ _ (omega arith))
+pub loop-k-preserved : goal.loop-k-preserved
+loop-k-preserved c =
+    let t = c.args.t.now in
+    let l = c.loop-k in
+    let whole = c.as_chunks.ensures.front in
+    let r = c.in-Some.ensures in
+    let form = turn_form t _ l.k whole (omega arith) false r.0 in
+    let short = (turn_fits t l.k _ false form refl).2 in
+    let mix = turn_mix t _ l.k whole (omega arith) short _ r.1 _ c.mix-m.ensures in
+    let lone = turn_lone t l.k _ false form refl _ l.marks refl mix l.invariant.1 in
+    let alone : twin (take (22 * l.k) t) (drop (22 * l.k) t) ≡ false =
+    elim c.else-marks-mark.branch [
+      | else-marks-mark-via-then-marks-mark+then-marks-other+else-twin w ↦ sym (turn_twin t _ l.k whole (omega arith) short _ r.1 _ w.twin.ensures) ∙ w.if-twin.false
+      | else-marks-mark-via-then-marks-mark+else-marks-other w ↦ lone.1 w.if-marks-other.false
+      | else-marks-mark-via-else-marks-mark w ↦ lone.0 w.if-marks-mark.false
+    ] in
+    (check_again t l.k _ false (omega arith) refl (omega arith) l.invariant.0 form _ refl refl alone, turn_marked t l.k _ false form refl _ l.marks refl mix l.invariant.1)
 
-pub marked_twin-requires : goal.marked_twin-requires
-marked_twin-requires c =
-    let m = c in
-    let b = m in
-    let l = b in
-    let t = l.args.t.now in
-    let good = m.if-bad_form.false in
-    let f = turn_fits t l.loop-p.k l.loop-p.p _ b.bad_form.ensures good in
-    let n = turn_lone t l.loop-p.k l.loop-p.p _ b.bad_form.ensures good _ l.loop-p.marks l.loop-p.invariant.0 m.mix-m.ensures l.loop-p.invariant.3 in
-    (f.0, f.1, n.0, n.1)
+pub returns-then-is_empty : goal.returns-then-is_empty
+returns-then-is_empty c =
+    let l = c.loop-k in
+    let e = c.as_chunks.ensures in
+    let none = eqb-true (length c.as_chunks.result.1.now) 0 (sym c.is_empty.ensures ∙ c.if-is_empty.true) in
+    check_end c.args.t.now l.k _ (omega (arith, e.front_len, e.back_len, none)) refl (omega (arith, e.front_len)) l.invariant.0
 
-pub returns-then-marked_twin : goal.returns-then-marked_twin
-returns-then-marked_twin c =
-    let w = c in
-    let m = w in
-    let b = m in
-    let l = b in
-    let i = l.loop-p.invariant in
-    stop_twin _ l.loop-p.k l.loop-p.p _ b.loop-p-test.true i.0 i.1 i.2 b.bad_form.ensures _ m.if-bad_form.false
-    w.marked_twin.ensures c.if-marked_twin.true
-
-pub loop-p-preserved : goal.loop-p-preserved
-loop-p-preserved c =
-    let w = c in
-    let m = w in
-    let b = m in
-    let l = b in
-    let t = l.args.t.now in
-    let i = l.loop-p.invariant in
-    let good = m.if-bad_form.false in
-    let again = check_again t l.loop-p.k l.loop-p.p _ b.loop-p-test.true i.0 i.1 i.2 b.bad_form.ensures _ good w.marked_twin.ensures c.if-marked_twin.false in
-    let marked = turn_marked t l.loop-p.k l.loop-p.p _ b.bad_form.ensures good _ l.loop-p.marks i.0 m.mix-m.ensures i.3 in
-    (omega arith, omega arith, again, marked, omega arith)
-
-pub returns : goal.returns
-returns c = search (check_end, rules)
+pub returns-else-is_empty : goal.returns-else-is_empty
+returns-else-is_empty c =
+    let l = c.loop-k in
+    let e = c.as_chunks.ensures in
+    let some = eqb-false (length c.as_chunks.result.1.now) 0 (sym c.is_empty.ensures ∙ c.if-is_empty.false) in
+    let last : length c.as_chunks.result.0.now ≡ l.k = omega arith in
+    ap (λ (i : ℕ). Err (22 * i)) last ∙ check_cut c.args.t.now l.k (sym last ∙ e.front_len) (omega (arith, e.front_len, e.back_len, some)) l.invariant.0

@@ -1,5 +1,0 @@
--- `tree::path_len` meets its contract.
-use Rattle.tree.proofs.+path_len.Given as goal
-
-abbrev pub decreases-path_len : goal.decreases-path_len
-decreases-path_len l = l.k

@@ -1,5 +1,0 @@
--- `tree::write_path` meets its contract.
-use Rattle.tree.proofs.+write_path.Given as goal
-
-abbrev pub decreases-write_path : goal.decreases-write_path
-decreases-write_path l = l.k
