@@ -1,51 +1,36 @@
 -- What the writers write, one step at a time, by bytes. Assumes nothing.
-use Prim.Native.Nat.{ℕ, suc, ◌+◌, ◌-◌, ◌<◌, ◌≤◌}
+use Prim.Native.Nat.{ℕ, zero, suc, ◌+◌, ◌*◌, ◌<◌, ◌≤◌}
 use mathlib.Core.Path.{◌≡◌, refl, sym, ap, ◌∙◌}
 use mathlib.Core.List.{List, [], ◌∷◌, ◌++◌, append_assoc, append-nil}
-use mathlib.Core.Bool.{Bool, true, false, cond, ◌&&◌, ◌||◌, and-false, or-false}
+use mathlib.Core.Bool.{Bool, true, false, cond, ◌||◌, and-false, or-false}
 use native.Mathlib.Omega.{arith}
-use native.Mathlib.Numerals.{add-one}
-use lib.ListN.{length, take, drop, get_or, set, drop_of_length-le, length-append, length-drop}
-use lib.Seq.{sets, drop-drop}
+use Rattle.std.specs.Cmp.Lexicographic.{pointwise}
+use Rattle.std.proofs.lemmas.Bool.Decides.{nat_tests}
+use lib.ListN.{length, take, drop, get_or, drop_of_length-le, length-append, length-take, length-drop, length-map}
 use lib.Dec.{eqb}
-use borrow.Author.Tests.{eq-eqb, ne_eqb}
+use borrow.Author.Tests.{ne_eqb}
 use Rattle.text.specs.Bytes.{bytes, one_of, same_bytes, is_word}
-use Rattle.text.specs.Lists.{all_of, any_of, run_len}
+use Rattle.text.specs.Lists.{all_of, any_of}
 use Rattle.text.proofs.Tests.{either, no_case}
-use Rattle.text.proofs.Scans.{drop_step, run_all, all_run, scan_within}
-use Rattle.text.proofs.Writes.{sets_append, sets_rest}
+use Rattle.text.proofs.Scans.{drop_step, scan_within}
 use Rattle.terms.specs.declared.Mode.{Mode}
 use Rattle.terms.specs.declared.Mode.TheVariants.{Out, OutGrave, In, InGrave}
 use Rattle.terms.specs.Signs.{Sign, bare, twelve, two, after, gives, at_end, signs, raw, raws, stands, meant}
-use Rattle.terms.proofs.SignBytes.{raws_signs, raws_append}
+use Rattle.terms.proofs.SignBytes.{raws_signs, raws_append, meant_length}
 use Rattle.terms.proofs.Bares.{raws_bares}
 use Rattle.canonical.specs.Canonical.{in_quotes, closing, quotes, is_plain, write_text}
-use Rattle.canonical.specs.Written.{graves, graved, graved_all, parting, text_signs, rewrite_from, rewritten, text_written, texts_in, is_parting, text_len, leads_dash, slash, slashed}
+use Rattle.canonical.specs.Written.{graves, graved, graved_all, parting, text_signs, rewrite_from, rewritten, text_written, texts_in, is_parting, text_len, leads_dash, dash_grave, place_in, slash, slashed, level_in, argument_in, written}
 use Rattle.canonical.proofs.TextWriting.{rewrite_over}
 use Rattle.terms.proofs.ByteCases.{gives_case, end_case}
 use Rattle.forms.proofs.TextLaws.{no_comma, no_open, no_close, no_equal}
+use Rattle.words.specs.declared.Kind.{Kind}
+use Rattle.words.specs.declared.Kind.TheVariants.{Mere, Keep, Level, Place, Entries}
+use Rattle.words.specs.Words.{names, all_name, kind_of}
+use Rattle.words.proofs.WordLaws.{verb_short, option_short}
+use Rattle.reading.specs.declared.Shown.{Shown}
+use Rattle.reading.specs.declared.Shown.TheVariants as shown
+use Rattle.canonical.proofs.Places.{all_length}
 use Rattle.canonical.proofs.Values.{quotes_case}
-
--- ---- stores
-
--- what is left to write after a, where all of it gives t
-pub then_left : (o o' a r t : List ℕ) (w w' : ℕ) → sets o w (a ++ r) ≡ t → o' ≡ sets o w a → w' ≡ w + length a → sets o' w' r ≡ t
-then_left o o' a r t w w' h e p = sets_rest o a o' w w' e p r ∙ h
-
-pub left_length : (a r : List ℕ) (w w' n : ℕ) → w + length (a ++ r) ≡ n → w' ≡ w + length a → w' + length r ≡ n
-left_length a r w w' n h p = omega (arith, length-append a r)
-
-pub two_sets : (o o₁ o₂ : List ℕ) (at x y : ℕ) → o₁ ≡ set o at x → o₂ ≡ set o₁ (at + 1) y → o₂ ≡ sets o at (x ∷ y ∷ [])
-two_sets o o₁ o₂ at x y e f = rw (f, e, add-one)
-
--- one byte, a text, one byte
-pub three_sets : (o o₁ o₂ o₃ s : List ℕ) (at w x y : ℕ) → o₁ ≡ set o at x → o₂ ≡ sets o₁ (at + 1) s → w ≡ at + 1 + length s → o₃ ≡ set o₂ w y
-    → o₃ ≡ sets o at (x ∷ (s ++ (y ∷ [])))
-three_sets o o₁ o₂ o₃ s at w x y e f p g = rw (g, f, p, e, add-one) (sets_append s (y ∷ []) (set o at x) (suc at))
-
--- a text after a byte
-pub after_set : (o o₁ o₂ s : List ℕ) (at x : ℕ) → o₁ ≡ set o at x → o₂ ≡ sets o₁ (at + 1) s → o₂ ≡ sets o at (x ∷ s)
-after_set o o₁ o₂ s at x e f = rw (f, e, add-one)
 
 -- ---- bytes with GRAVEs
 
@@ -99,16 +84,10 @@ unfolding is_plain
 plain_none [] h = refl
 plain_none (b ∷ s) h = absurd (omega arith)
 
-pub plain_run : (s : List ℕ) → (length s ≡ 0 → ⊥) → eqb (run_len is_word s) (length s) ≡ is_plain s
+pub plain_all : (s : List ℕ) → (length s ≡ 0 → ⊥) → all_of is_word s ≡ is_plain s
 unfolding is_plain
-plain_run [] h = absurd (h refl)
-plain_run (b ∷ s) h = either (all_of is_word (b ∷ s)) yes' no'
-  where
-    yes' : all_of is_word (b ∷ s) ≡ true → eqb (run_len is_word (b ∷ s)) (length (b ∷ s)) ≡ true && all_of is_word (b ∷ s)
-    yes' e = rw e (eq-eqb (run_len is_word (b ∷ s)) (length (b ∷ s)) (all_run is_word (b ∷ s) e))
-
-    no' : all_of is_word (b ∷ s) ≡ false → eqb (run_len is_word (b ∷ s)) (length (b ∷ s)) ≡ true && all_of is_word (b ∷ s)
-    no' e = rw e (ne_eqb (run_len is_word (b ∷ s)) (length (b ∷ s)) (λ z. no_case (sym (run_all is_word (b ∷ s) z) ∙ e)))
+plain_all [] h = absurd (h refl)
+plain_all (b ∷ s) h = refl
 
 pub text_plain : (s : List ℕ) → is_plain s ≡ true → raws (write_text s) ≡ s
 unfolding write_text
@@ -234,39 +213,29 @@ after_bytes : (c : ℕ) (r : List ℕ) → raws (after_text (c ∷ r)) ≡ c ∷
 unfolding raws texts_in
 after_bytes c r = refl
 
--- the text at a place is the last, or a byte that parts and the rest follow it
-module _ (s : List ℕ) (i e : ℕ) (p : e ≡ i + text_len Out (drop i s)) where
-  part : texts_in (drop i s) ≡ text_written (take (e - i) (drop i s)) ++ raws (after_text (drop e s))
-  part =
-      let n : e - i ≡ text_len Out (drop i s) = omega arith in
-      texts_by (drop i s)
-      ∙ ap (λ (k : ℕ). text_written (take k (drop i s)) ++ raws (after_text (drop (text_len Out (drop i s)) (drop i s)))) (sym n)
-      ∙ ap (λ (z : List ℕ). text_written (take (e - i) (drop i s)) ++ raws (after_text z)) (drop-drop (text_len Out (drop i s)) i s ∙ ap (λ (k : ℕ). drop k s) (sym p))
+-- a text, and what stands from its end on: nothing, or a byte that parts it from the rest
+module _ (s t r : List ℕ) (n : ℕ) (is : n ≡ text_len Out s) (text : t ≡ take n s) (from : r ≡ drop n s) where
+  parts : texts_in s ≡ text_written t ++ raws (after_text r)
+  parts = rw (text, from, is) (texts_by s)
 
-  pub texts_last : e ≡ length s → texts_in (drop i s) ≡ text_written (take (e - i) (drop i s))
-  texts_last h =
-      let k : length s ≤ e = omega arith in
-      part
-      ∙ ap (λ (z : List ℕ). text_written (take (e - i) (drop i s)) ++ raws (after_text z)) (drop_of_length-le s k)
-      ∙ (unfold raws in append-nil (text_written (take (e - i) (drop i s))))
+  pub texts_last : length r ≡ 0 → texts_in s ≡ text_written t
+  unfolding raws
+  texts_last e = parts ∙ ap (λ (z : List ℕ). text_written t ++ z) (ends r e) ∙ append-nil (text_written t)
+    where
+      ends : (z : List ℕ) → length z ≡ 0 → raws (after_text z) ≡ []
+      ends [] h = refl
+      ends (c ∷ z) h = absurd (omega arith)
 
-  pub texts_more : e < length s → texts_in (drop i s) ≡ text_written (take (e - i) (drop i s)) ++ (get_or s e 0 ∷ texts_in (drop (e + 1) s))
-  texts_more h =
-      part
-      ∙ ap (λ (z : List ℕ). text_written (take (e - i) (drop i s)) ++ raws (after_text z)) (drop_step s e h)
-      ∙ ap (λ (z : List ℕ). text_written (take (e - i) (drop i s)) ++ z) (after_bytes (get_or s e 0) (drop (e + 1) s))
-
-  -- the text ends within the term
-  pub text_fits : i ≤ length s → e ≤ length s
-  text_fits h = omega (arith, text_within Out (drop i s), length-drop i s)
+  pub texts_more : (c : ℕ) (z : List ℕ) → r ≡ c ∷ z → texts_in s ≡ text_written t ++ (c ∷ texts_in z)
+  texts_more c z e = parts ∙ ap (λ (x : List ℕ). text_written t ++ raws (after_text x)) e ∙ ap (λ (x : List ℕ). text_written t ++ x) (after_bytes c z)
 
 -- ---- a source or destination, a target, names
 
-pub short_dash : (s : List ℕ) → length s < 2 → leads_dash s ≡ false
+pub dash_starts : (s : List ℕ) → pointwise eqb (bytes "`-") (take 2 s) ≡ leads_dash s
 unfolding leads_dash same_bytes bytes
-short_dash [] h = refl
-short_dash (b ∷ []) h = and-false (eqb b 96)
-short_dash (b ∷ c ∷ s) h = absurd (omega arith)
+dash_starts [] = refl
+dash_starts (b ∷ []) = and-false (eqb 96 b) ∙ sym (and-false (eqb b 96))
+dash_starts (b ∷ c ∷ s) = grind (arith, nat_tests)
 
 pub slashed_on : (l : List ℕ) (i : ℕ) → i < length l → slashed (drop i l) ≡ slash (get_or l i 0) ∷ slashed (drop (i + 1) l)
 unfolding slashed
@@ -275,3 +244,78 @@ slashed_on l i h = rw (drop_step l i h)
 pub slashed_past : (l : List ℕ) (i : ℕ) → length l ≤ i → slashed (drop i l) ≡ []
 unfolding slashed
 slashed_past l i h = rw (drop_of_length-le l h)
+
+-- ---- how long a writing is at most
+
+graved_all_short : (q : Bool) (s : List ℕ) → length (graved_all q s) ≤ 2 * length s
+unfolding graved_all
+graved_all_short q [] = omega arith
+graved_all_short q (b ∷ s) = omega (arith, graved_short q b, graved_all_short q s, length-append (graved q b) (graved_all q s))
+
+value_short : (s : List ℕ) → length (raws (write_text s)) ≤ 2 * length s + 2
+value_short s =
+    either (is_plain s) (λ e. omega (arith, ap length (text_plain s e)))
+    (λ e. omega (arith, ap length (text_quoted s e), quotes_length s, graved_all_short true s))
+
+text_short : (s : List ℕ) → length (text_written s) ≤ 4 * length s
+text_short [] = omega (arith, ap length (text_in_none [] refl))
+text_short (b ∷ s) =
+    omega (
+      arith,
+      ap length (text_in_some (b ∷ s) (λ e. let z : suc (length s) ≡ 0 = e in omega arith)),
+      value_short (meant (b ∷ s)),
+      meant_length (b ∷ s),
+    )
+
+texts_short : (most : ℕ) (s : List ℕ) → length s ≤ most → length (texts_in s) ≤ 4 * length s
+texts_short most s h = go most s h (drop (text_len Out s) s) refl
+  where
+    go : (most : ℕ) (s : List ℕ) → length s ≤ most → (r : List ℕ) → r ≡ drop (text_len Out s) s → length (texts_in s) ≤ 4 * length s
+    go most s h [] e =
+        let t = take (text_len Out s) s in
+        omega (arith, ap length (texts_last s t [] (text_len Out s) refl refl e refl), text_short t, length-take (text_len Out s) s)
+    go zero s h (c ∷ r) e = omega (arith, ap length e, length-drop (text_len Out s) s)
+    go (suc most) s h (c ∷ r) e =
+        let t = take (text_len Out s) s in
+        let n = ap length e in
+        let l = length-drop (text_len Out s) s in
+        omega (
+          arith,
+          ap length (texts_more s t (c ∷ r) (text_len Out s) refl refl e c r refl),
+          length-append (text_written t) (c ∷ texts_in r),
+          text_short t,
+          length-take (text_len Out s) s,
+          go most r (omega arith) (drop (text_len Out r) r) refl,
+        )
+
+dash_short : (x : Bool) → length (dash_grave x) ≤ 1
+dash_short true = omega arith
+dash_short false = omega arith
+
+place_short : (s : List ℕ) → length (place_in s) ≤ 2 * length s + 1
+unfolding place_in
+place_short s =
+    omega (arith, dash_short (leads_dash s), graved_all_short false (meant s), meant_length s, length-append (dash_grave (leads_dash s)) (graved_all false (meant s)))
+
+level_short : (s : List ℕ) → length (level_in s) ≤ length s
+unfolding level_in
+level_short s = go (names all_name s) refl
+  where
+    go : (x : Bool) → names all_name s ≡ x → length (cond x all_name s) ≤ length s
+    go true e = let l = all_length s e in unfold all_name bytes in omega arith
+    go false e = omega arith
+
+argument_short : (k : Kind) (s : List ℕ) → length (argument_in k s) ≤ 4 * length s + 1
+argument_short Mere s = omega arith
+argument_short Keep s = omega arith
+argument_short Level s = omega (arith, level_short s)
+argument_short Place s = omega (arith, place_short s)
+argument_short Entries s = omega (arith, texts_short (length s) s (omega arith))
+
+pub written_short : (x : Shown) (s : List ℕ) → length (written x s) ≤ 4 * length s + 12
+unfolding slashed
+written_short (shown.Verb n) s = omega (arith, verb_short n)
+written_short (shown.Option n) s = omega (arith, option_short n)
+written_short (shown.Argument n) s = omega (arith, argument_short (kind_of n) s)
+written_short shown.Target s = omega (arith, length-map s slash)
+written_short (shown.Property m o) s = omega (arith, texts_short (length s) s (omega arith))

@@ -16,7 +16,7 @@ use Rattle.words.specs.declared.Kind.{Kind}
 use Rattle.words.specs.Words.{lower, lowered, kind_of, verb_of, verb_name, option_of, option_name}
 use Rattle.words.proofs.Folding.{lowered_same, lowered_again}
 use Rattle.words.proofs.WordLaws.{verb_only_name, verb_shape, option_only_name, option_shape}
-use Rattle.reading.specs.declared.Span.{Span}
+use Rattle.terms.specs.declared.Span.{Span}
 use Rattle.reading.specs.declared.State.{State}
 use Rattle.reading.specs.Command.{argument_by, Argument, Item, verb, option}
 use Rattle.reading.specs.Reading.{begin, decide, takes, next, Part, read, part_of, walk_terms, reading_of}

@@ -1,11 +1,9 @@
 -- Canonical writing: a function of the command alone. It says of each byte whether it is written bare, escaped or quoted; `raws` gives the bytes.
-use Rattle.std.specs.Prelude.{ℕ, List, [], ◌∷◌, ◌++◌, map, Bool, true, false, cond, not, ◌&&◌, ◌||◌, eqb}
+use Rattle.std.specs.Prelude.{ℕ, List, [], ◌∷◌, ◌++◌, map, Bool, true, false, cond, not, ◌&&◌, ◌||◌, eqb, Result, Err}
 use Rattle.std.proofs.Math.Option.{Option, none, some}
-use Rattle.text.specs.declared.Answer.{Answer}
-use Rattle.text.specs.declared.Answer.TheVariants.{Refused}
 use Rattle.text.specs.Bytes.{bytes, one_of, is_word}
 use Rattle.text.specs.Lists.{all_of, between, is_nil}
-use Rattle.text.specs.Room.{fitted, filled}
+use Rattle.text.specs.Room.{fitted, filled, refusal_at}
 use Rattle.terms.specs.Signs.{Sign, bare, escaped, bares, raws}
 unfoldable pub use Rattle.terms.specs.Quotes.{in_quotes, closing}
 pub use Rattle.terms.specs.Quotes.{quotes}
@@ -14,6 +12,7 @@ use Rattle.forms.specs.Forms.{Value, one, many, Entry, Said, alone, equals, matc
 use Rattle.forms.specs.Targets.{Target, session, path}
 use Rattle.reading.specs.Command.{Argument, numeral, text, items, Item, verb, option, argument, target, prop}
 use Rattle.reading.specs.Reading.{Part, Reading, refusal, read}
+use Rattle.text.specs.declared.Refusal.{Refusal}
 
 -- one or more letters, digits and underscores
 unfoldable pub is_plain : List ℕ → Bool
@@ -92,8 +91,8 @@ writing c = raws (between (bare 32) (map write_item c))
 abbrev pub items_of : List Part → List Item
 items_of ps = map (λ (p : Part). p.item) ps
 
-abbrev pub writing_answer : ℕ → Reading → Answer
-writing_answer room (refusal n p) = Refused n p
+abbrev pub writing_answer : ℕ → Reading → Result ℕ Refusal
+writing_answer room (refusal n p) = Err (refusal_at n p)
 writing_answer room (read ps) = fitted room (writing (items_of ps))
 
 abbrev pub writing_room : List ℕ → Reading → List ℕ

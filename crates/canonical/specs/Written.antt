@@ -1,7 +1,5 @@
 -- What the code writes of a term, by the term's own bytes. proofs/TermWriting has it that this is the canonical writing of the part that the term is.
-use Rattle.std.specs.Prelude.{ℕ, suc, ◌+◌, List, [], ◌∷◌, ◌++◌, map, Bool, true, false, cond, ◌||◌, length, take, eqb}
-use Rattle.text.specs.declared.Answer.{Answer}
-use Rattle.text.specs.declared.Answer.TheVariants.{Wrote, Refused}
+use Rattle.std.specs.Prelude.{ℕ, suc, ◌+◌, List, [], ◌∷◌, ◌++◌, map, Bool, true, false, cond, ◌||◌, length, take, eqb, Result, Ok, Err}
 use Rattle.text.specs.Bytes.{bytes, one_of, same_bytes}
 use Rattle.text.specs.Lists.{each, between, is_nil}
 use Rattle.terms.specs.declared.Mode.{Mode}
@@ -15,6 +13,8 @@ use Rattle.reading.specs.declared.Shown.TheVariants as shown
 use Rattle.reading.specs.Command.{Item}
 use Rattle.reading.specs.Reading.{Reading, refusal, read}
 use Rattle.canonical.specs.Canonical.{three, write_text, write_item, items_of}
+use Rattle.text.specs.declared.Refusal.{Refusal}
+use Rattle.text.specs.Room.{refusal_at}
 
 -- ---- bytes with GRAVEs
 
@@ -122,6 +122,6 @@ written_in first (refusal n p) = []
 written_in first (read ps) = rest_of first (items_of ps)
 
 -- how many bytes a reading's writing has, w bytes before it, or its refusal
-abbrev pub written_from : ℕ → Bool → Reading → Answer
-written_from w first (refusal n p) = Refused n p
-written_from w first (read ps) = Wrote (w + length (rest_of first (items_of ps)))
+abbrev pub written_from : ℕ → Bool → Reading → Result ℕ Refusal
+written_from w first (refusal n p) = Err (refusal_at n p)
+written_from w first (read ps) = Ok (w + length (rest_of first (items_of ps)))

@@ -1,42 +1,34 @@
--- `canonical::is_graved` meets its contract.
-use Prim.Native.Nat.{ℕ}
-use borrow.Author.Tests.{ne_eqb}
-use mathlib.Core.Path.{◌≡◌, refl, sym, ap, ◌∙◌}
+use mathlib.Core.Path.{◌≡◌}
 use mathlib.Core.Bool.{Bool, true, false, not}
-use native.Mathlib.Omega.{arith}
+use Prim.Native.Nat.{ℕ}
+use Rattle.std.proofs.Common.{◌⊎◌}
+use Rattle.std.proofs.Common.{arith}
+use Rattle.std.proofs.lemmas.Bool.Decides.{nat_tests}
 use Rattle.text.specs.Bytes.{bytes, one_of}
 use Rattle.terms.specs.Signs.{two}
 use Rattle.canonical.specs.Written.{graves}
 use Rattle.canonical.proofs.is_graved.Goals as goal
 
-of_grave : (q : Bool) → graves q 96 ≡ true
+of_grave : (q : Bool) (b : ℕ) → (b ≡ 34) ⊎ (b ≡ 96) → true ≡ graves q b
 unfolding two one_of bytes
-of_grave true = refl
-of_grave false = refl
+of_grave true b h = grind (arith, nat_tests)
+of_grave false b h = grind (arith, nat_tests)
 
-of_quote : (q : Bool) → graves q 34 ≡ true
+of_space : (q : Bool) (b : ℕ) → b ≡ 32 → not q ≡ graves q b
 unfolding two one_of bytes
-of_quote true = refl
-of_quote false = refl
+of_space true b h = grind (arith, nat_tests)
+of_space false b h = grind (arith, nat_tests)
 
-of_space : (q : Bool) → graves q 32 ≡ not q
+of_other : (q : Bool) (b : ℕ) → (b ≡ 96 → ⊥) → (b ≡ 34 → ⊥) → (b ≡ 32 → ⊥) → false ≡ graves q b
 unfolding two one_of bytes
-of_space true = refl
-of_space false = refl
-
-of_other : (q : Bool) (b : ℕ) → (b ≡ 96 → ⊥) → (b ≡ 34 → ⊥) → (b ≡ 32 → ⊥) → graves q b ≡ false
-unfolding two one_of bytes
-of_other true b g m s = simp (ne_eqb b 96 g, ne_eqb b 34 m)
-of_other false b g m s = simp (ne_eqb b 96 g, ne_eqb b 34 m, ne_eqb b 32 s)
+of_other true b g m s = grind (arith, nat_tests)
+of_other false b g m s = grind (arith, nat_tests)
 
 pub returns-in-96 : goal.returns-in-96
-returns-in-96 c = sym (ap (graves c.args.quoted) c.in-96.is ∙ of_grave c.args.quoted)
-
-pub returns-in-34 : goal.returns-in-34
-returns-in-34 c = sym (ap (graves c.args.quoted) c.in-34.is ∙ of_quote c.args.quoted)
+returns-in-96 c = of_grave c.args.quoted c.args.b c.in-96.is
 
 pub returns-in-32 : goal.returns-in-32
-returns-in-32 c = sym (ap (graves c.args.quoted) c.in-32.is ∙ of_space c.args.quoted)
+returns-in-32 c = of_space c.args.quoted c.args.b c.in-32.is
 
 pub returns-in_default : goal.returns-in_default
-returns-in_default c = sym (of_other c.args.quoted c.args.b (omega arith) (omega arith) (omega arith))
+returns-in_default c = of_other c.args.quoted c.args.b (λ e. grind arith) (λ e. grind arith) (λ e. grind arith)

@@ -1,29 +1,28 @@
--- `canonical::put_level` meets its contract.
 use mathlib.Core.Path.{sym, ◌∙◌}
-use native.Mathlib.Omega.{arith}
+use Rattle.words.proofs.Pens.{as_text}
 use Rattle.text.specs.Bytes.{bytes}
-use Rattle.words.specs.Words.{all_name}
+use Rattle.words.specs.Words.{names, all_name}
 use Rattle.canonical.specs.Written.{level_in}
-use Rattle.canonical.proofs.Places.{all_length}
+use Prim.Native.Nat.{ℕ}
+use mathlib.Core.Path.{◌≡◌, ap}
+use mathlib.Core.Bool.{true, false}
+use mathlib.Core.List.{List}
+use denote.Ref.{Bor}
+use Rattle.canonical.proofs.put_level.Goals.{then-is_all, else-is_all}
 use Rattle.canonical.proofs.put_level.Goals as goal
 
-pub put_raw-requires : goal.put_raw-requires
-put_raw-requires c =
-    let d = c in
-    omega (arith, all_length d.args.s.now (sym d.is_all.ensures ∙ d.if-is_all.true), d.requires)
+level_all : (s : List ℕ) → names all_name s ≡ true → level_in s ≡ all_name
+unfolding level_in
+level_all s e = rw e
 
-pub returns-then-is_all : goal.returns-then-is_all
-unfolding level_in all_name bytes
-returns-then-is_all c =
-    let d = c in
-    let s = d.args.s.now in
-    let e = sym d.is_all.ensures ∙ d.if-is_all.true in
-    let p = c.put_raw.ensures in
-    rw e (p.0, p.1, omega (arith, all_length s e, p.0))
+level_number : (s : List ℕ) → names all_name s ≡ false → level_in s ≡ s
+unfolding level_in
+level_number s e = rw e
 
 pub returns : goal.returns
-unfolding level_in
+unfolding all_name bytes
 returns c =
-    let d = c in
-    let p = c.put_raw-2.ensures in
-    rw (sym d.is_all.ensures ∙ d.if-is_all.false) (p.0, p.1, omega (arith, p.0))
+    elim c.if-is_all.branch [
+      | then-is_all w ↦ as_text (ap (λ (r : Bor (List ℕ)). r.now) w.text-is ∙ sym (level_all c.args.s.now (sym c.is_all.ensures ∙ w.if-is_all.true))) c.text.ensures
+      | else-is_all w ↦ as_text (ap (λ (r : Bor (List ℕ)). r.now) w.text-is ∙ sym (level_number c.args.s.now (sym c.is_all.ensures ∙ w.if-is_all.false))) c.text.ensures
+    ]

@@ -1,19 +1,10 @@
--- `canonical::put_value` meets its contract.
 use mathlib.Core.Path.{sym, ◌∙◌}
-use native.Mathlib.Omega.{arith}
+use Rattle.words.proofs.Pens.{as_text}
 use Rattle.canonical.proofs.WriteLaws.{text_plain, text_quoted}
 use Rattle.canonical.proofs.put_value.Goals as goal
 
 pub returns-then-is_plain : goal.returns-then-is_plain
-returns-then-is_plain c =
-    let a = c.args in
-    let p = c.put_raw in
-    let e = text_plain a.s.now (sym c.is_plain.ensures ∙ c.if-is_plain.true) in
-    rw e (p.ensures.0, p.ensures.1, omega (arith, p.ensures.0))
+returns-then-is_plain c = as_text (sym (text_plain c.args.s.now (sym c.is_plain.ensures ∙ c.if-is_plain.true))) c.text.ensures
 
-pub returns : goal.returns
-returns c =
-    let a = c.args in
-    let p = c.put_quoted in
-    let e = text_quoted a.s.now (sym c.is_plain.ensures ∙ c.if-is_plain.false) in
-    rw e (p.ensures.0, p.ensures.1, omega (arith, p.ensures.2))
+pub returns-else-is_plain : goal.returns-else-is_plain
+returns-else-is_plain c = as_text (sym (text_quoted c.args.s.now (sym c.is_plain.ensures ∙ c.if-is_plain.false))) c.put_quoted.ensures

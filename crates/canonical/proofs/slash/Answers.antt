@@ -1,13 +1,12 @@
--- `canonical::slash` meets its contract.
-use borrow.Author.Tests.{ne_eqb}
-use mathlib.Core.Path.{sym, ap}
+use Rattle.std.proofs.Common.{arith}
+use Rattle.std.proofs.lemmas.Bool.Decides.{nat_tests}
 use Rattle.canonical.specs.Written.{slash}
 use Rattle.canonical.proofs.slash.Goals as goal
 
 pub returns-then-b-eq92 : goal.returns-then-b-eq92
 unfolding slash
-returns-then-b-eq92 c = sym (ap slash c.if-b-eq92.true)
+returns-then-b-eq92 c = grind (arith, nat_tests)
 
-pub returns : goal.returns
+pub returns-else-b-eq92 : goal.returns-else-b-eq92
 unfolding slash
-returns c = simp (ne_eqb _ _ c.if-b-eq92.false)
+returns-else-b-eq92 c = grind (arith, nat_tests)
