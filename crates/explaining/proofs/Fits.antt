@@ -6,7 +6,6 @@ use mathlib.Core.Bool.{Bool, true, false, cond}
 use native.Mathlib.Omega.{arith}
 use lib.ListN.{length, take, drop, replicate, length-append, length-take, length-drop, length-replicate}
 use lib.Dec.{eqb}
-use Rattle.text.specs.declared.Answer.TheVariants.{Wrote}
 use Rattle.text.specs.Bytes.{bytes}
 use Rattle.text.specs.Decimal.{digits}
 use Rattle.text.specs.Room.{fitted}
@@ -26,6 +25,7 @@ use Rattle.reading.proofs.Folds.{fine_short}
 use Rattle.explaining.specs.Words.{words_of}
 use Rattle.explaining.specs.Explained.{visible, newline, option_label, option_text, operator_text, value_text, part_text, parts_text, mark_text, where_text, reason_text, refused_text, blank_text, explained_in, explained_of}
 use Rattle.explaining.proofs.PutLaws.{visible_short, words_short}
+use Rattle.std.proofs.Common.{Ok}
 
 -- ---- one part
 
@@ -145,8 +145,8 @@ explained_most line = go (reading_of line) refl
         )
 
 -- in such a room it is never refused
-pub always_told : (line : List ℕ) (room : ℕ) → 32768 ≤ room → fitted room (explained_of line) ≡ Wrote (length (explained_of line))
+pub always_told : (line : List ℕ) (room : ℕ) → 32768 ≤ room → fitted room (explained_of line) ≡ Ok (length (explained_of line))
 always_told line room h = fitted_room room (explained_of line) (omega (arith, explained_most line))
 
-pub always_refused_told : (line : List ℕ) (n p room : ℕ) → 32768 ≤ room → fitted room (refused_text line n p) ≡ Wrote (length (refused_text line n p))
+pub always_refused_told : (line : List ℕ) (n p room : ℕ) → 32768 ≤ room → fitted room (refused_text line n p) ≡ Ok (length (refused_text line n p))
 always_refused_told line n p room h = fitted_room room (refused_text line n p) (omega (arith, refused_most line n p))

@@ -4,49 +4,40 @@ use mathlib.Core.Path.{◌≡◌, refl, sym, ap, ◌∙◌}
 use mathlib.Core.List.{List, [], ◌∷◌, ◌++◌}
 use mathlib.Core.Bool.{Bool, true, false}
 use native.Mathlib.Omega.{arith}
-use native.Mathlib.Nat.{le_refl}
-use lib.ListN.{length, take, drop, get_or, set, replicate, length-append, length-replicate, drop_of_length-le, replicate-append-replicate, get_or-eq_default}
-use lib.Seq.{sets, take_all}
+use lib.ListN.{length, take, drop, get_or, replicate, length-append, drop_of_length-le, replicate-append-replicate, get_or-eq_default}
 use lib.Dec.{leb, eqb}
 use borrow.Author.Tests.{leb-true, leb-false, eqb-true, eqb-false}
+use Rattle.std.proofs.lemmas.List.{take_min}
 use Rattle.text.specs.Bytes.{bytes, printable}
 use Rattle.text.specs.Lists.{all_of}
 use Rattle.text.proofs.Tests.{and_l, and_r}
 use Rattle.text.proofs.Scans.{drop_step}
-use Rattle.text.specs.declared.Answer.TheVariants.{Wrote, Refused}
 use Rattle.text.specs.Room.{fitted, filled}
-use Rattle.text.proofs.Writes.{sets_rest, fitted_room, fitted_none, filled_none, filled_sets}
+use Rattle.text.proofs.Writes.{fitted_room, fitted_none, filled_none, filled_sets}
+use Rattle.words.specs.Pens.{Puts}
 use Rattle.explaining.specs.Words.{refusal_words, words_of}
 use Rattle.explaining.specs.Explained.{hex_digit, visible_byte, visible}
-use Rattle.explaining.specs.Steps.{Puts}
+use Rattle.explaining.specs.Steps.{PutsFirst}
+use Rattle.words.specs.declared.Pen.{Pen}
+use Rattle.std.proofs.Common.{Ok, Err}
+use Rattle.text.specs.Room.{refusal_at}
 
 -- ---- writers
 
--- one after another
-pub more : {room s t b out : List ℕ} {at w v : ℕ} → Puts room at s b w → Puts b w t out v → Puts room at (s ++ t) out v
-more {room} {s} {t} {b} {out} {at} {w} {v} p q =
-    record { ends = omega (arith, p.ends, q.ends, length-append s t); holds = q.holds ∙ sets_rest room s b at w p.holds p.ends t }
+-- a room that a pen wrote in from the start on
+pub put_first : {p q : Pen} {room t out : List ℕ} → p.at ≡ 0 → p.out.now ≡ room → Puts p t q → out ≡ q.out.now → PutsFirst room t out q.at
+put_first {p} {q} {room} {t} {out} z e a h =
+    record { ends = omega (arith, a.ends); holds = h ∙ rw (← e, ← z) a.holds; within = rw (← e) a.within }
 
--- nothing
-pub nothing_put : {room : List ℕ} {at : ℕ} → Puts room at [] room at
-nothing_put = record { ends = omega arith; holds = refl }
+-- a text that was measured in no room, and then written where it fits
+pub none_answer : {none left : List ℕ} {n : ℕ} (room t : List ℕ) → PutsFirst none t left n → length room < n → (Err (refusal_at 19 0) ≡ fitted (length room) t) × (room ≡ filled room t)
+none_answer room t p h = (sym (fitted_none (length room) t (omega (arith, p.ends))), sym (filled_none room t (omega (arith, p.ends))))
 
--- the same text, said otherwise
-pub as_text : {room s t out : List ℕ} {at w : ℕ} → s ≡ t → Puts room at s out w → Puts room at t out w
-as_text {room} {s} {t} {out} {at} {w} e p = rw e at p
-
--- what a writer that tells how many bytes it wrote leaves
-pub counted_put : {room out : List ℕ} {at n : ℕ} (t : List ℕ) → n ≡ length t → out ≡ sets room at t → Puts room at t out (at + n)
-counted_put t e h = record { ends = omega arith; holds = h }
-
--- a text that was counted, and then written where it fits
-pub none_answer : (room t : List ℕ) (n : ℕ) → n ≡ 0 + length t → length room < n → (Refused 19 0 ≡ fitted (length room) t) × (room ≡ filled room t)
-none_answer room t n e h = (sym (fitted_none (length room) t (omega arith)), sym (filled_none room t (omega arith)))
-
-pub fits_answer : (room t out : List ℕ) (n : ℕ) → n ≡ 0 + length t → n ≤ length room → out ≡ sets room 0 t → (Wrote n ≡ fitted (length room) t) × (out ≡ filled room t)
-fits_answer room t out n e h p =
-    let l : n ≡ length t = omega arith in
-    (ap Wrote l ∙ sym (fitted_room (length room) t (omega arith)), p ∙ filled_sets room t (omega arith))
+pub fits_answer : {none left out : List ℕ} {n m : ℕ} (room t : List ℕ) → PutsFirst none t left n → n ≤ length room → PutsFirst room t out m
+    → (Ok n ≡ fitted (length room) t) × (out ≡ filled room t)
+fits_answer {none} {left} {out} {n} room t p h q =
+    let l : n ≡ length t = omega (arith, p.ends, q.within) in
+    (ap Ok l ∙ sym (fitted_room (length room) t (omega arith)), q.holds ∙ filled_sets room t (omega arith))
 
 -- ---- bytes as shown
 
@@ -78,36 +69,33 @@ unfolding visible
 visible_short [] = omega arith
 visible_short (b ∷ s) = let ih = visible_short s in omega (arith, byte_short b, length-append (visible_byte b) (visible s))
 
--- ---- spaces
+-- ---- columns
 
-pub space_more : (o b : List ℕ) (at i : ℕ) → b ≡ sets o at (replicate i 32) → set b (at + i) 32 ≡ sets o at (replicate (i + 1) 32)
-space_more o b at i e =
-    let s : List ℕ = replicate i 32 in
-    let n : at + i ≡ at + length s = omega (arith, length-replicate {A = ℕ} i 32) in
-    ap (λ (k : ℕ). set b k 32) n ∙ sets_rest o s b at (at + length s) e refl (32 ∷ []) ∙ ap (sets o at) (replicate-append-replicate {A = ℕ} i 1 32)
+pub columns_on : (l : List ℕ) (i : ℕ) → i < length l
+    → replicate {A = ℕ} (length (visible (drop i l))) 32 ≡ replicate {A = ℕ} (length (visible_byte (get_or l i 0))) 32 ++ replicate {A = ℕ} (length (visible (drop (i + 1) l))) 32
+columns_on l i h =
+    let b = visible_byte (get_or l i 0) in
+    let t = visible (drop (i + 1) l) in
+    ap (λ (k : ℕ). replicate {A = ℕ} k 32) (ap length (visible_on l i h) ∙ length-append b t) ∙ sym (replicate-append-replicate {A = ℕ} (length b) (length t) 32)
 
--- ---- parts of a term
+pub columns_past : (l : List ℕ) (i : ℕ) → length l ≤ i → replicate {A = ℕ} (length (visible (drop i l))) 32 ≡ []
+columns_past l i h = ap (λ (t : List ℕ). replicate {A = ℕ} (length t) 32) (visible_past l i h)
 
-pub take_least : (m : ℕ) (t : List ℕ) → take (min m (length t)) t ≡ take m t
-take_least m t = go (leb m (length t)) refl
-  where
-    go : (x : Bool) → leb m (length t) ≡ x → take (min m (length t)) t ≡ take m t
-    go true e = let n : min m (length t) ≡ m = omega (arith, leb-true m (length t) e) in ap (λ (k : ℕ). take k t) n
-    go false e =
-        let l = leb-false m (length t) e in
-        let n : min m (length t) ≡ length t = omega arith in
-        ap (λ (k : ℕ). take k t) n ∙ take_all (length t) t (omega arith) ∙ sym (take_all m t (omega arith))
+-- ---- the first bytes, and the rest
 
-pub drop_least : (m : ℕ) (t : List ℕ) → drop (min m (length t)) t ≡ drop m t
-drop_least m t = go (leb m (length t)) refl
-  where
-    go : (x : Bool) → leb m (length t) ≡ x → drop (min m (length t)) t ≡ drop m t
-    go true e = let n : min m (length t) ≡ m = omega (arith, leb-true m (length t) e) in ap (λ (k : ℕ). drop k t) n
-    go false e =
-        let l = leb-false m (length t) e in
-        let m-past : length t ≤ m = omega arith in
-        let n : min m (length t) ≡ length t = omega arith in
-        ap (λ (k : ℕ). drop k t) n ∙ drop_of_length-le t (le_refl (length t)) ∙ sym (drop_of_length-le t m-past)
+module _ (t : List ℕ) (m n : ℕ) (e : n ≡ min (length t) m) where
+  pub take_least : take n t ≡ take m t
+  take_least = let l : n ≡ min m (length t) = omega (arith, e) in ap (λ (k : ℕ). take k t) l ∙ take_min m t
+
+  pub drop_least : drop n t ≡ drop m t
+  drop_least = go (leb m (length t)) refl
+    where
+      go : (x : Bool) → leb m (length t) ≡ x → drop n t ≡ drop m t
+      go true h = let l : n ≡ m = omega (arith, e, leb-true m (length t) h) in ap (λ (k : ℕ). drop k t) l
+      go false h =
+          let a : length t ≤ n = omega (arith, e, leb-false m (length t) h) in
+          let b : length t ≤ m = omega (arith, leb-false m (length t) h) in
+          drop_of_length-le t a ∙ sym (drop_of_length-le t b)
 
 -- ---- words
 
@@ -121,11 +109,6 @@ short_row most (x ∷ rows) (suc n) h = short_row most rows n (and_r (leb (lengt
 pub words_short : (n : ℕ) → length (words_of n) ≤ 255
 unfolding words_of refusal_words bytes all_of
 words_short n = short_row 255 ([] ∷ refusal_words) n refl
-
-pub worded : {room t out : List ℕ} {at w n k : ℕ} → n ≡ k → words_of k ≡ t → Puts room at t out w → Puts room at (words_of n) out w × (w ≤ at + 255)
-worded {room} {t} {out} {at} {w} {n} {k} e h p =
-    let q : Puts room at (words_of n) out w = as_text (sym h ∙ sym (ap words_of e)) p in
-    (q, omega (arith, q.ends, words_short n))
 
 -- another number has none
 pub unworded : (n : ℕ) → (1 ≤ n → n ≤ 20 → ⊥) → words_of n ≡ []

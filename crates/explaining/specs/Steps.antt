@@ -1,13 +1,14 @@
 -- What the code goes by: where a writer's text ends, and what is left to tell of a line.
-use Rattle.std.specs.Prelude.{ℕ, ◌+◌, List, [], ◌∷◌, Bool, true, false, ◌≡◌, length}
+use Rattle.std.specs.Prelude.{ℕ, ◌-◌, ◌^◌, ◌<◌, min, List, [], ◌∷◌, Bool, true, false, ◌≡◌, length}
 use Rattle.std.proofs.lemmas.List.Edits.{sets}
 use Rattle.reading.specs.Reading.{Reading, refusal, read}
 use Rattle.explaining.specs.Explained.{parts_text}
 
--- a writer's text t stands from a place on, as far as the room goes, all else as it was, and ends at w: room is what was lent, out what it then holds
-pub record Puts (room : List ℕ) (at : ℕ) (t out : List ℕ) (w : ℕ) : Type 0 where
-  pub ends : w ≡ at + length t
-  pub holds : out ≡ sets room at t
+-- what a text t leaves that was written from a room's start on: room is what was lent, out what it then holds, and n tells how many bytes t has
+pub record PutsFirst (room t out : List ℕ) (n : ℕ) : Type 0 where
+  pub ends : n ≡ min (length t) (2 ^ 64 - 1)
+  pub holds : out ≡ sets room 0 t
+  pub within : length room < 2 ^ 63
 
 -- does a reading have no part?
 abbrev pub is_blank : Reading → Bool

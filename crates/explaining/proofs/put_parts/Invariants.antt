@@ -1,22 +1,19 @@
--- `explaining::put_parts` meets its contract. The loop's invariant: to write the parts that are left, from w, gives what writing all would.
-use Prim.Native.Nat.{◌+◌, ◌-◌, ◌*◌, ◌≤◌}
-use mathlib.Core.Path.{◌≡◌}
-use lib.ListN.{length}
-use lib.Seq.{sets}
-use Rattle.text.specs.declared.Verdict.TheVariants.{Fine}
+-- The parts that are left are written after it as all would be from the start.
+use Rattle.std.proofs.Common.{◌≡◌, ◌-◌, ◌^◌, ◌<◌, ◌≤◌, length}
 use Rattle.reading.specs.Cursor.{left, first_cursor}
 use Rattle.reading.specs.Shown.{verdict_in}
+use Rattle.words.specs.declared.Pen.{Pen}
+use Rattle.words.specs.Pens.{Puts}
 use Rattle.explaining.specs.Steps.{parts_in}
 use Rattle.explaining.proofs.put_parts.Given as goal
+use Rattle.std.proofs.Common.{Ok}
 
-abbrev pub invariant-loop-item : goal.invariant-loop-item
-invariant-loop-item l =
-    (sets l.out l.w (parts_in l.line (left l.line l.c)) ≡ sets l.initial.out l.at (parts_in l.line (left l.line first_cursor)))
-    × (l.w + length (parts_in l.line (left l.line l.c)) ≡ l.at + length (parts_in l.line (left l.line first_cursor)))
-    × (verdict_in (left l.line l.c) ≡ Fine)
-    × (length l.out ≡ length l.initial.out)
+abbrev pub invariant-loop-part : goal.invariant-loop-part
+invariant-loop-part l =
+    ((end : Pen) → Puts l.pen (parts_in l.line (left l.line l.c)) end → Puts l.initial.pen (parts_in l.line (left l.line first_cursor)) end)
+    × (verdict_in (left l.line l.c) ≡ Ok tt)
     × (l.c.at ≤ length l.line)
-    × (l.w ≤ l.at + 28 * l.c.at)
+    × (length l.pen.out.now < 2 ^ 63)
 
-abbrev pub decreases-loop-item : goal.decreases-loop-item
-decreases-loop-item l = length l.line - l.c.at
+abbrev pub decreases-loop-part : goal.decreases-loop-part
+decreases-loop-part l = length l.line - l.c.at

@@ -1,26 +1,18 @@
--- `explaining::put_read` meets its contract.
 use mathlib.Core.Path.{sym, ap, ◌∙◌}
 use Rattle.text.specs.Bytes.{bytes}
 use Rattle.reading.specs.Shown.{verdict_in}
-use Rattle.reading.proofs.Folds.{fine_left, fine_lexical, fine_short}
+use Rattle.reading.proofs.Folds.{fine_left, fine_lexical}
 use Rattle.explaining.specs.Explained.{blank_text}
-use Rattle.explaining.proofs.PutLaws.{more, as_text}
+use Rattle.words.proofs.Pens.{more, as_text}
 use Rattle.explaining.proofs.LineLaws.{blank_whole, parts_whole}
-use native.Mathlib.Omega.{arith}
 use Rattle.explaining.proofs.put_read.Goals as goal
+
+pub put_parts-requires : goal.put_parts-requires
+put_parts-requires c = ap verdict_in (sym (fine_left c.args.line.now (fine_lexical c.args.line.now c.requires))) ∙ c.requires
 
 pub returns-then-is_blank : goal.returns-then-is_blank
 unfolding blank_text bytes
-returns-then-is_blank c = as_text (sym (blank_whole c.args.line.now c.requires (sym c.is_blank.ensures ∙ c.if-is_blank.true))) c.put_text.ensures
+returns-then-is_blank c = as_text (sym (blank_whole c.args.line.now c.requires (sym c.is_blank.ensures ∙ c.if-is_blank.true))) c.text.ensures
 
-pub put_visible-a-requires : goal.put_visible-a-requires
-put_visible-a-requires c = let line = c.args.line.now in omega (arith, fine_short line (fine_lexical line c.requires))
-
-pub put_end-b-requires : goal.put_end-b-requires
-put_end-b-requires c = let line = c.args.line.now in omega (arith, c.put_visible-a.ensures.1, fine_short line (fine_lexical line c.requires))
-
-pub put_parts-requires : goal.put_parts-requires
-put_parts-requires c = let line = c.args.line.now in let s = fine_short line (fine_lexical line c.requires) in record { at_bound = (omega (arith, c.put_visible-a.ensures.1, c.put_end-b.ensures.ends), s); first_cursor_value = ap verdict_in (sym (fine_left line (fine_lexical line c.requires))) ∙ c.requires }
-
-pub returns : goal.returns
-returns c = as_text (sym (parts_whole c.args.line.now c.requires (sym c.is_blank.ensures ∙ c.if-is_blank.false))) (more c.put_visible-a.ensures.0 (more c.put_end-b.ensures c.put_parts.ensures))
+pub returns-else-is_blank : goal.returns-else-is_blank
+returns-else-is_blank c = as_text (sym (parts_whole c.args.line.now c.requires (sym c.is_blank.ensures ∙ c.if-is_blank.false))) (more c.put_visible.ensures (more c.put_end.ensures c.put_parts.ensures))

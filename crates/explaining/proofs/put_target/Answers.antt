@@ -1,15 +1,7 @@
--- `explaining::put_target` meets its contract.
 use Rattle.text.specs.Bytes.{bytes}
-use Rattle.explaining.proofs.PutLaws.{more}
-use native.Mathlib.Omega.{arith}
+use Rattle.words.proofs.Pens.{more}
 use Rattle.explaining.proofs.put_target.Goals as goal
-
-pub put_visible-b-requires : goal.put_visible-b-requires
-put_visible-b-requires c = omega (arith, c.put_text-a.ensures.ends)
-
-pub put_end-requires : goal.put_end-requires
-put_end-requires c = omega (arith, c.put_text-a.ensures.ends, c.put_visible-b.ensures.1)
 
 pub returns : goal.returns
 unfolding bytes
-returns c = (more c.put_text-a.ensures (more c.put_visible-b.ensures.0 c.put_end.ensures), omega (arith, c.put_text-a.ensures.ends, c.put_visible-b.ensures.1, c.put_end.ensures.ends))
+returns c = more c.text.ensures (more c.put_visible.ensures c.put_end.ensures)

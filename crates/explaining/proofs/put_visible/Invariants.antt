@@ -1,18 +1,10 @@
--- `explaining::put_visible` meets its contract. The loop's invariant: to write what is left, from w, gives what writing all would.
-use Prim.Native.Nat.{◌+◌, ◌-◌, ◌*◌, ◌≤◌}
-use mathlib.Core.Path.{◌≡◌}
-use lib.ListN.{length, drop}
-use lib.Seq.{sets}
+-- What is left is written after it as all would be from the start.
+use Rattle.std.proofs.Common.{◌<◌, ◌^◌, length, drop}
+use Rattle.words.specs.declared.Pen.{Pen}
 use Rattle.explaining.specs.Explained.{visible}
+use Rattle.words.specs.Pens.{Puts}
 use Rattle.explaining.proofs.put_visible.Given as goal
 
-abbrev pub invariant-loop-i : goal.invariant-loop-i
-invariant-loop-i l =
-    (sets l.out l.w (visible (drop l.i l.s)) ≡ sets l.initial.out l.at (visible l.s))
-    × (l.w + length (visible (drop l.i l.s)) ≡ l.at + length (visible l.s))
-    × (length l.out ≡ length l.initial.out)
-    × (l.w ≤ l.at + 4 * l.i)
-    × (l.i ≤ length l.s)
-
-abbrev pub decreases-loop-i : goal.decreases-loop-i
-decreases-loop-i l = length l.s - l.i
+abbrev pub invariant-loop-b : goal.invariant-loop-b
+invariant-loop-b l =
+    ((end : Pen) → Puts l.pen (visible (drop l.b-index l.s)) end → Puts l.initial.pen (visible l.s) end) × (length l.pen.out.now < 2 ^ 63)

@@ -1,9 +1,0 @@
--- `explaining::hex_digit` meets its contract.
-use borrow.Author.Tests.{lt-ltb, le-ltb}
-use Rattle.explaining.proofs.hex_digit.Goals as goal
-
-pub returns-then-n-lt10 : goal.returns-then-n-lt10
-returns-then-n-lt10 c = rw (lt-ltb _ 10 c.if-n-lt10.true)
-
-pub returns : goal.returns
-returns c = rw (le-ltb _ 10 c.if-n-lt10.false)
