@@ -9,71 +9,53 @@ ghost use Rattle.joiner.specs.Join.{end_of};
 ghost use Rattle.lister.specs.Lister.{listed, call_of, end_stands, end_room};
 ghost use Rattle.lister.specs.Listing.{stands_of, outcome_stands, outcome_room, Ready};
 
-use joiner::{End, Joiner, Outcome};
-use text::Answer;
+use joiner::{End, Joiner};
+use text::Refusal;
 
-// What now stands in the room: nothing yet, so many bytes of records, or a refusal.
-#[derive(Clone, Copy)]
-pub enum Stands {
-    Nothing,
-    Records(usize),
-    Refused { number: u8, place: usize },
-}
-
-// What a call of the lister gives: the state, how many bytes were used, and what stands in the room.
+// What a call of the lister gives: the state, how many bytes were used, and how many bytes of records now stand in the room, none where nothing does yet; or a
+// refusal.
 #[derive(Clone, Copy)]
 pub struct Listed {
     pub state: Joiner,
     pub used: usize,
-    pub stands: Stands,
+    pub stands: Result<Option<usize>, Refusal>,
 }
 
-// What an answer says of the room.
-fn stands_by(a: Answer) -> Stands
-    ensures { result ≡ stands_of a }
-{
-    match a {
-        Answer::Wrote(n) => Stands::Records(n),
-        Answer::Refused { number, place } => Stands::Refused { number, place },
-    }
-}
-
-// The record of a refusal, in room for it.
-fn put_refused(room: &mut [u8], number: u8, place: usize) -> Stands
+// The record of a refusal, in room for it; tells how many bytes it has.
+fn put_refused(room: &mut [u8], refusal: Refusal) -> usize
     requires in_bounds { 4 ≤ length room.old }
-    requires place_bound { place ≤ 65535 }
-    ensures { (result ≡ Stands.Records 4) × (room.new ≡ wrote room.old (refusal_record number place)) }
+    requires place_bound { refusal.place ≤ 65535 }
+    ensures { (result ≡ 4) × (room.new ≡ wrote room.old (refusal_record refusal.number refusal.place)) }
 {
-    reading::put_refusal(room, number, place as u16);
-    Stands::Records(4)
+    let _ = reading::put_refusal(room, refusal.number, refusal.place as u16);
+    4
 }
 
-// The records of a line, or its refusal's, in room for a whole reading.
-fn put_line(line: &[u8], room: &mut [u8]) -> Stands
+// The records of a line, or its refusal's, in room for a whole reading; tells how many bytes they have.
+fn put_line(line: &[u8], room: &mut [u8]) -> usize
     requires { 399 ≤ length room.old }
-    ensures { (result ≡ Stands.Records (length (listed_in (reading_of line.now)))) × (room.new ≡ wrote room.old (listed_in (reading_of line.now))) }
+    ensures { (result ≡ length (listed_in (reading_of line.now))) × (room.new ≡ wrote room.old (listed_in (reading_of line.now))) }
 {
-    let a = reading::read(line, room);
-    match a {
-        Answer::Wrote(n) => Stands::Records(n),
-        Answer::Refused { number, place } => put_refused(room, number, place),
+    match reading::read(line, room) {
+        Ok(n) => n,
+        Err(refusal) => put_refused(room, refusal),
     }
 }
 
 // What a call of the joiner gave, as records in room for a whole reading.
-fn put_outcome(o: Outcome, buffer: &[u8], room: &mut [u8]) -> Stands
-    requires { Ready o buffer.now room.old }
-    ensures { (result ≡ outcome_stands o buffer.now) × (room.new ≡ outcome_room room.old o buffer.now) }
+fn put_outcome(
+    outcome: Result<Option<usize>, Refusal>,
+    buffer: &[u8],
+    room: &mut [u8],
+) -> Result<Option<usize>, Refusal>
+    requires { Ready outcome buffer.now room.old }
+    ensures { (result ≡ outcome_stands outcome buffer.now) × (room.new ≡ outcome_room room.old outcome buffer.now) }
 {
-    match o {
-        Outcome::More => Stands::Nothing,
-        Outcome::Line(n) => put_line(&buffer[..n], room),
-        Outcome::Refused { number, place } => {
-            if number == 19 {
-                return Stands::Refused { number, place };
-            }
-            put_refused(room, number, place)
-        }
+    match outcome {
+        Ok(None) => Ok(None),
+        Ok(Some(n)) => Ok(Some(put_line(&buffer[..n], room))),
+        Err(refusal) if refusal.number == 19 => Err(refusal),
+        Err(refusal) => Ok(Some(put_refused(room, refusal))),
     }
 }
 
@@ -87,36 +69,27 @@ pub fn next_answer(state: Joiner, buffer: &mut [u8], part: &[u8], room: &mut [u8
         return Listed {
             state,
             used: 0,
-            stands: Stands::Refused {
+            stands: Err(Refusal {
                 number: 19,
                 place: 0,
-            },
+            }),
         };
     }
     let j = state.join(buffer, part);
-    let next = j.state;
-    let used = j.used;
-    let o = j.outcome;
-    let s = put_outcome(o, buffer, room);
     Listed {
-        state: next,
-        used,
-        stands: s,
+        state: j.state,
+        used: j.used,
+        stands: put_outcome(j.outcome, buffer, room),
     }
 }
 
 // The end of the capture: a cut as its record.
-pub fn end_answer(state: Joiner, room: &mut [u8]) -> Stands
+pub fn end_answer(state: Joiner, room: &mut [u8]) -> Result<Option<usize>, Refusal>
     ensures value { result ≡ end_stands (length room.old) (end_of state) }
     ensures room_after { room.new ≡ end_room room.old (end_of state) }
 {
-    let e = state.end();
-    match e {
-        End::Nothing => Stands::Nothing,
-        End::Cut => {
-            let a = reading::put_cut(room);
-            stands_by(a)
-        }
-        End::Refused { number, place } => Stands::Refused { number, place },
+    match state.end()? {
+        End::Nothing => Ok(None),
+        End::Cut => Ok(Some(reading::put_cut(room)?)),
     }
 }

@@ -8,9 +8,6 @@ use mathlib.Core.Option.{Option, some}
 use lib.ListN.{length, take, drop}
 use lib.Dec.{ltb}
 use borrow.Author.Tests.{le-ltb}
-use Rattle.text.specs.declared.Verdict.TheVariants.{Fine}
-use Rattle.joiner.specs.declared.Outcome.{Outcome}
-use Rattle.joiner.specs.declared.Outcome.TheVariants as outcome
 use Rattle.joiner.specs.Lines.{Given, line, refused}
 use Rattle.words.specs.declared.Kind.{Kind}
 use Rattle.words.specs.declared.Kind.TheVariants.{Mere, Keep, Level, Place, Entries}
@@ -27,6 +24,10 @@ use Rattle.wording.proofs.WordingLaws.{text_of_six, flaw_then}
 use Rattle.lister.specs.Lister.{records_by}
 use Rattle.printing.specs.Printing.{longest, outcome_text}
 use Rattle.printing.specs.Prints.{given_records}
+use Rattle.std.proofs.Common.{Ok}
+use Rattle.std.proofs.Common.{Result, Err, Some, None}
+use Rattle.std.proofs.Common as std
+use Rattle.text.specs.declared.Refusal.{Refusal}
 
 -- ---- how long they are
 
@@ -37,13 +38,13 @@ listed_most t = go (reading_of t) refl
     go (refusal n p) e = omega arith
     go (read ps) e = at_most_399 t ps e
 
-pub records_most : (o : Outcome) (b : List ℕ) → length (records_by o b) ≤ 399
-records_most outcome.More b = omega arith
-records_most (outcome.Line n) b = listed_most (take n b)
-records_most (outcome.Refused n p) b = omega arith
+pub records_most : (o : Result (std.Option ℕ) Refusal) (b : List ℕ) → length (records_by o b) ≤ 399
+records_most (Ok None) b = omega arith
+records_most (Ok (Some n)) b = listed_most (take n b)
+records_most (Err e) b = omega arith
 
 -- NO LINE'S TEXT IS LONGER: six times as much as 399
-pub text_fits : (o : Outcome) (b : List ℕ) → length (outcome_text o b) ≤ longest
+pub text_fits : (o : Result (std.Option ℕ) Refusal) (b : List ℕ) → length (outcome_text o b) ≤ longest
 unfolding outcome_text
 text_fits o b = omega (arith, text_of_six (records_by o b), records_most o b)
 
@@ -80,8 +81,8 @@ unfolding form_of forms total
 blank_wide = record { what = _; is = refl; len = refl }
 
 -- a record of which all is there, before records that are good
-on_fine : {k w : ℕ} (d : Wide k w) (p : ℕ) (s : List ℕ) (f : ℕ → List ℕ → Worded) → w ≤ length s → flaw_in (f (p + 1 + w) (drop w s)) ≡ Fine
-    → flaw_in (on_form (form_of k) p s f) ≡ Fine
+on_fine : {k w : ℕ} (d : Wide k w) (p : ℕ) (s : List ℕ) (f : ℕ → List ℕ → Worded) → w ≤ length s → flaw_in (f (p + 1 + w) (drop w s)) ≡ Ok tt
+    → flaw_in (on_form (form_of k) p s f) ≡ Ok tt
 on_fine {k} {w} d p s f l h =
     let g = d.what in
     ap (λ (o : Option Form). flaw_in (on_form o p s f)) d.is
@@ -92,7 +93,7 @@ on_fine {k} {w} d p s f l h =
 
 -- what is good whatever the count of records and the place are
 abbrev Good : List ℕ → Type 0
-Good rs = (n p : ℕ) → flaw_in (wording_from n p rs) ≡ Fine
+Good rs = (n p : ℕ) → flaw_in (wording_from n p rs) ≡ Ok tt
 
 good_none : Good []
 unfolding wording_from
@@ -140,17 +141,17 @@ good_listed : (r : Reading) → Good (listed_in r)
 good_listed (refusal k a) = good_refusal k a
 good_listed (read ps) = good_read ps
 
-good_by : (o : Outcome) (b : List ℕ) → Good (records_by o b)
-good_by outcome.More b = good_none
-good_by (outcome.Line n) b = good_listed (reading_of (take n b))
-good_by (outcome.Refused k a) b = good_refusal k a
+good_by : (o : Result (std.Option ℕ) Refusal) (b : List ℕ) → Good (records_by o b)
+good_by (Ok None) b = good_none
+good_by (Ok (Some n)) b = good_listed (reading_of (take n b))
+good_by (Err e) b = good_refusal e.number e.place
 
-fine_worded : (u : Worded) → flaw_in u ≡ Fine → u ≡ worded (worded_text u)
+fine_worded : (u : Worded) → flaw_in u ≡ Ok tt → u ≡ worded (worded_text u)
 fine_worded (worded t) e = refl
 fine_worded (unworded n p) e = let z : ◌≡◌ {A = ℕ} 0 1 = cc in absurd (omega arith)
 
 -- THE RECORDS OF EVERY LINE ARE WORDED
-pub line_worded : (o : Outcome) (b : List ℕ) → wording_of (records_by o b) ≡ worded (outcome_text o b)
+pub line_worded : (o : Result (std.Option ℕ) Refusal) (b : List ℕ) → wording_of (records_by o b) ≡ worded (outcome_text o b)
 unfolding outcome_text wording_of
 line_worded o b = fine_worded (wording_of (records_by o b)) (good_by o b (length (records_by o b)) 0)
 

@@ -9,14 +9,11 @@ use lib.ListN.{length, take, drop, length-append, length-drop, drop_of_length-le
 use lib.Seq.{sets, sets-eq, length-sets, drop-drop}
 use lib.Dec.{leb, ltb}
 use borrow.Author.Tests.{eq-eqb, ltb-true, leb-true, le-ltb}
-use Rattle.text.specs.declared.Answer.TheVariants as answers
 use Rattle.text.specs.Room.{wrote}
 use Rattle.text.proofs.Tests.{and_r, no_case}
 use Rattle.text.proofs.Slices.{part_from}
 use Rattle.text.proofs.Writes.{sets_append, sets_fill}
 use Rattle.joiner.specs.declared.Joiner.{Joiner}
-use Rattle.joiner.specs.declared.Outcome.{Outcome}
-use Rattle.joiner.specs.declared.Outcome.TheVariants as outcome
 use Rattle.joiner.specs.Step.{reachable}
 use Rattle.joiner.specs.Join.{Ran, join_of}
 use Rattle.joiner.proofs.Laws.{fits_length, fits_state, used_within}
@@ -27,6 +24,9 @@ use Rattle.printing.specs.declared.Called.{Called}
 use Rattle.printing.specs.Printing.{longest, may_call, may_print, lines_by, ran_text, Print, none_yet, and_then, print_from, print_of, printed, printed_by, unprinted, part_print}
 use Rattle.printing.specs.Steps.{called_by}
 use Rattle.printing.proofs.LineText.{text_fits}
+use Rattle.std.proofs.Common.{Ok}
+use Rattle.std.proofs.Common.{Result, Err, Option, Some, None}
+use Rattle.text.specs.declared.Refusal.{Refusal}
 
 -- ---- one call more
 
@@ -121,15 +121,15 @@ left_on W out₀ R P out out' at lines n l e =
 
 pub left_end : (W : Print) (out₀ : List ℕ) (s : Joiner) (b out : List ℕ) (at lines n : ℕ) → Left W out₀ (none_yet s b) out at lines n → n ≤ length out
     → length out ≡ length out₀
-    → (◌≡◌ {A = Printed} (printed s at lines (answers.Wrote n)) (printed_by W out₀).answer) × ((b ≡ W.buffer) × (out ≡ wrote out₀ W.text))
+    → (◌≡◌ {A = Printed} (printed s at lines (Ok n)) (printed_by W out₀).answer) × ((b ≡ W.buffer) × (out ≡ wrote out₀ W.text))
 left_end W out₀ s b out at lines n l h e =
     let u : at ≡ W.used = omega (arith, l.used) in
     let v : lines ≡ W.lines = omega (arith, l.lines) in
     let w : n ≡ length W.text = omega (arith, l.count) in (
-      ap (λ (q : Joiner). printed q at lines (answers.Wrote n)) (sym l.state)
-          ∙ ap (λ (k : ℕ). printed W.state k lines (answers.Wrote n)) u
-          ∙ ap (λ (k : ℕ). printed W.state W.used k (answers.Wrote n)) v
-          ∙ ap (λ (k : ℕ). printed W.state W.used W.lines (answers.Wrote k)) w,
+      ap (λ (q : Joiner). printed q at lines (Ok n)) (sym l.state)
+          ∙ ap (λ (k : ℕ). printed W.state k lines (Ok n)) u
+          ∙ ap (λ (k : ℕ). printed W.state W.used k (Ok n)) v
+          ∙ ap (λ (k : ℕ). printed W.state W.used W.lines (Ok k)) w,
       (sym l.buffer, l.text ∙ sets_fill out₀ W.text (omega arith)),
     )
 
@@ -173,10 +173,10 @@ turn_start s b p out e =
       left = rw z (left_start (print_of s b p (length out)) out);
     }
 
-pub one_line : (o : Outcome) → lines_by o ≤ 1
-one_line outcome.More = omega arith
-one_line (outcome.Line k) = omega arith
-one_line (outcome.Refused k p) = omega arith
+pub one_line : (o : Result (Option ℕ) Refusal) → lines_by o ≤ 1
+one_line (Ok None) = omega arith
+one_line (Ok (Some k)) = omega arith
+one_line (Err e) = omega arith
 
 -- what a call tells of the rest of the part and of the room
 pub record Counts (part out : List ℕ) (at lines n : ℕ) (c : Called) : Type 0 where
@@ -253,7 +253,7 @@ module _ {s₀ : Joiner} {b₀ part out₀ : List ℕ} {s : Joiner} {b out : Lis
 -- no call more
 pub turn_end : {s₀ : Joiner} {b₀ part out₀ : List ℕ} {s : Joiner} {b out : List ℕ} {at lines n : ℕ} → Turn s₀ b₀ part out₀ s b out at lines n
     → may_call (length part - at) (length out - n) ≡ false → may_print s₀ b₀ (length out₀) ≡ true
-    → (◌≡◌ {A = Printed} (printed s at lines (answers.Wrote n)) (part_print s₀ b₀ part out₀).answer)
+    → (◌≡◌ {A = Printed} (printed s at lines (Ok n)) (part_print s₀ b₀ part out₀).answer)
     × ((b ≡ (part_print s₀ b₀ part out₀).buffer) × (out ≡ (part_print s₀ b₀ part out₀).out))
 unfolding part_print
 turn_end {s₀} {b₀} {part} {out₀} {s} {b} {out} {at} {lines} {n} T h g =

@@ -3,69 +3,54 @@ use Prim.Native.Nat.{ℕ, ◌≤◌}
 use native.Mathlib.Omega.{arith}
 use mathlib.Core.Path.{◌≡◌, refl, sym, ap, ◌∙◌, subst}
 use mathlib.Core.List.{List, []}
-use mathlib.Core.Bool.{Bool, true, false, not, ◌&&◌, ◌||◌, cond}
+use mathlib.Core.Bool.{Bool, true, false, ◌||◌, cond}
 use lib.ListN.{length, take}
-use lib.Dec.{leb, ltb}
-use borrow.Author.Tests.{le-leb, eq-eqb, ne_eqb, lt-ltb, not-true, not-false}
-use Rattle.text.specs.declared.Answer.TheVariants as answers
-use Rattle.text.specs.Room.{wrote}
+use lib.Dec.{ltb}
+use borrow.Author.Tests.{le-leb}
+use Rattle.text.specs.Room.{wrote, refusal_at}
 use Rattle.text.proofs.Writes.{fitted_room, filled_room, length_wrote, take_wrote}
 use Rattle.joiner.specs.declared.Joiner.{Joiner}
-use Rattle.joiner.specs.declared.Outcome.{Outcome}
-use Rattle.joiner.specs.declared.Outcome.TheVariants as outcome
 use Rattle.joiner.specs.declared.End.{End}
 use Rattle.joiner.specs.declared.End.TheVariants as end'
 use Rattle.joiner.specs.Step.{reachable}
 use Rattle.joiner.specs.Join.{join_of, end_of}
 use Rattle.wording.specs.Words.{Worded, worded, unworded, wording_from, wording_of, text_answer, text_room}
 use Rattle.wording.specs.Steps.{worded_text}
-use Rattle.lister.specs.declared.Stands.{Stands}
-use Rattle.lister.specs.declared.Stands.TheVariants.{Nothing, Records, Refused}
 use Rattle.lister.specs.declared.Listed.{Listed}
 use Rattle.lister.specs.Lister.{Call, records_by, stands_by, joined, fit, call_of}
+use Rattle.std.specs.Result.{is_ok, result_unwrap_or}
 use Rattle.printing.specs.declared.Called.{Called}
-use Rattle.printing.specs.Printing.{longest, may_call, may_print, lines_by, outcome_text, ran_text, records_text}
+use Rattle.printing.specs.Printing.{longest, lines_by, outcome_text, ran_text, records_text}
 use Rattle.printing.specs.Steps.{standing, Stood, lines_in, called_by}
 use Rattle.printing.proofs.LineText.{records_most, text_fits}
+use Rattle.std.proofs.Common.{Ok, Err}
+use Rattle.std.proofs.Common.{Result, Option, Some, None}
+use Rattle.text.specs.declared.Refusal.{Refusal}
 
 -- ---- the tests
 
-abbrev pub unrefused : End → Bool
-unrefused end'.Nothing = true
-unrefused end'.Cut = true
-unrefused (end'.Refused n p) = false
+abbrev pub unrefused : Result End Refusal → Bool
+unrefused (Ok end'.Nothing) = true
+unrefused (Ok end'.Cut) = true
+unrefused (Err e) = false
 
 -- the end refuses exactly a state that no capture leads to
 pub unrefused_end : (s : Joiner) → unrefused (end_of s) ≡ reachable s
 unfolding end_of
 unrefused_end s = go (reachable s) (ltb 0 s.held || s.grave)
   where
-    go : (t u : Bool) → unrefused (cond t (cond u end'.Cut end'.Nothing) (end'.Refused 19 0)) ≡ t
+    go : (t u : Bool) → unrefused (cond t (cond u (Ok end'.Cut) (Ok end'.Nothing)) (Err (refusal_at 19 0))) ≡ t
     go true true = refl
     go true false = refl
     go false u = refl
 
-module _ (s : Joiner) (b : List ℕ) (room : ℕ) where
-  pub print_other : (length b ≡ 1024 → ⊥) → false ≡ may_print s b room
-  print_other h = sym (ap (λ (t : Bool). (t && reachable s) && leb longest room) (ne_eqb (length b) 1024 h))
-
-  module _ (h : length b ≡ 1024) (q : Bool) (e : q ≡ reachable s) where
-    pub print_by : (q && leb longest room) ≡ may_print s b room
-    print_by =
-        ap (λ (t : Bool). t && leb longest room) e
-        ∙ sym (ap (λ (t : Bool). (t && reachable s) && leb longest room) (eq-eqb (length b) 1024 h))
-
-    pub print_lost : not q ≡ true → false ≡ may_print s b room
-    print_lost n = sym (ap (λ (t : Bool). t && leb longest room) (not-true q n)) ∙ print_by
-
-    pub print_room : not q ≡ false → leb longest room ≡ may_print s b room
-    print_room n = sym (ap (λ (t : Bool). t && leb longest room) (not-false q n)) ∙ print_by
-
-pub call_none : (left room : ℕ) → left ≡ 0 → false ≡ may_call left room
-call_none left room e = sym (ap (λ (k : ℕ). ltb 0 k && leb longest room) e)
-
-pub call_some : (left room : ℕ) → (left ≡ 0 → ⊥) → leb longest room ≡ may_call left room
-call_some left room h = sym (ap (λ (t : Bool). t && leb longest room) (lt-ltb 0 left (omega arith)))
+pub possible_by : (s : Joiner) (e : Result End Refusal) → e ≡ end_of s → is_ok e ≡ reachable s
+possible_by s e h = as_told e ∙ ap unrefused h ∙ unrefused_end s
+  where
+    as_told : (e : Result End Refusal) → is_ok e ≡ unrefused e
+    as_told (Ok end'.Nothing) = refl
+    as_told (Ok end'.Cut) = refl
+    as_told (Err r) = refl
 
 -- ---- the text of records
 
@@ -78,74 +63,79 @@ unfolding wrote
 none_wrote out = refl
 
 module _ (rs out : List ℕ) (h : length (records_text rs) ≤ length out) where
-  pub text_wrote : (n : ℕ) (x : List ℕ) → answers.Wrote n ≡ text_answer (length out) (wording_of rs) → x ≡ text_room out (wording_of rs)
+  pub text_wrote : (n : ℕ) (x : List ℕ) → Ok n ≡ text_answer (length out) (wording_of rs) → x ≡ text_room out (wording_of rs)
       → (n ≡ length (records_text rs)) × (x ≡ wrote out (records_text rs))
   text_wrote n x = go (wording_of rs) h
     where
-      go : (u : Worded) → length (worded_text u) ≤ length out → answers.Wrote n ≡ text_answer (length out) u → x ≡ text_room out u
+      go : (u : Worded) → length (worded_text u) ≤ length out → Ok n ≡ text_answer (length out) u → x ≡ text_room out u
           → (n ≡ length (worded_text u)) × (x ≡ wrote out (worded_text u))
       go (worded t) l e f =
-          let q : answers.Wrote n ≡ answers.Wrote (length t) = e ∙ fitted_room (length out) t l in
+          let q : ◌≡◌ {A = Result ℕ Refusal} (Ok n) (Ok (length t)) = e ∙ fitted_room (length out) t l in
           let m : n ≡ length t = cc in
           (m, f ∙ filled_room out t l)
       go (unworded k p) l e f = let z : ◌≡◌ {A = ℕ} 0 1 = cc in absurd (omega arith)
 
-  pub text_refused : (k p : ℕ) (x : List ℕ) → answers.Refused k p ≡ text_answer (length out) (wording_of rs) → x ≡ text_room out (wording_of rs)
+  pub text_refused : (k p : ℕ) (x : List ℕ) → Err (refusal_at k p) ≡ text_answer (length out) (wording_of rs) → x ≡ text_room out (wording_of rs)
       → (0 ≡ length (records_text rs)) × (x ≡ wrote out (records_text rs))
   text_refused k p x = go (wording_of rs) h
     where
-      go : (u : Worded) → length (worded_text u) ≤ length out → answers.Refused k p ≡ text_answer (length out) u → x ≡ text_room out u
+      go : (u : Worded) → length (worded_text u) ≤ length out → Err (refusal_at k p) ≡ text_answer (length out) u → x ≡ text_room out u
           → (0 ≡ length (worded_text u)) × (x ≡ wrote out (worded_text u))
       go (worded t) l e f =
-          let q : answers.Refused k p ≡ answers.Wrote (length t) = e ∙ fitted_room (length out) t l in
+          let q : ◌≡◌ {A = Result ℕ Refusal} (Err (refusal_at k p)) (Ok (length t)) = e ∙ fitted_room (length out) t l in
           let z : ◌≡◌ {A = ℕ} 0 1 = cc in absurd (omega arith)
       go (unworded m a) l e f = (refl, f ∙ none_wrote out)
 
+  pub text_by : (r : Result ℕ Refusal) (x : List ℕ) → r ≡ text_answer (length out) (wording_of rs) → x ≡ text_room out (wording_of rs)
+      → (result_unwrap_or r 0 ≡ length (records_text rs)) × (x ≡ wrote out (records_text rs))
+  text_by (Ok n) x e f = text_wrote n x e f
+  text_by (Err r) x e f = text_refused r.number r.place x e f
+
 -- ---- the text of what stands in a room
 
-module _ (s : Stands) (room out : List ℕ) where
+module _ (s : Result (Option ℕ) Refusal) (room out : List ℕ) where
   none_stands : standing s room ≡ [] → (0 ≡ length (records_text (standing s room))) × (out ≡ wrote out (records_text (standing s room)))
   none_stands e =
       let t : records_text (standing s room) ≡ [] = ap records_text e ∙ no_text in
       (sym (ap length t), none_wrote out ∙ sym (ap (wrote out) t))
 
-  pub nothing_stands : s ≡ Nothing → (0 ≡ length (records_text (standing s room))) × (out ≡ wrote out (records_text (standing s room)))
-  nothing_stands e = none_stands (ap (λ (q : Stands). standing q room) e)
+  pub nothing_stands : s ≡ Ok None → (0 ≡ length (records_text (standing s room))) × (out ≡ wrote out (records_text (standing s room)))
+  nothing_stands e = none_stands (ap (λ (q : Result (Option ℕ) Refusal). standing q room) e)
 
-  pub refused_stands : (k p : ℕ) → s ≡ Refused k p → (0 ≡ length (records_text (standing s room))) × (out ≡ wrote out (records_text (standing s room)))
-  refused_stands k p e = none_stands (ap (λ (q : Stands). standing q room) e)
+  pub refused_stands : (k p : ℕ) → s ≡ Err (refusal_at k p) → (0 ≡ length (records_text (standing s room))) × (out ≡ wrote out (records_text (standing s room)))
+  refused_stands k p e = none_stands (ap (λ (q : Result (Option ℕ) Refusal). standing q room) e)
 
-  module _ (n : ℕ) (e : s ≡ Records n) where
+  module _ (n : ℕ) (e : s ≡ Ok (Some n)) where
     pub records_within : Stood s room → n ≤ length room
-    records_within w = subst (λ (q : Stands). Stood q room) e w
+    records_within w = subst (λ (q : Result (Option ℕ) Refusal). Stood q room) e w
 
     pub records_fit : length (records_text (standing s room)) ≤ length out → length (records_text (take n room)) ≤ length out
-    records_fit h = subst (λ (q : Stands). length (records_text (standing q room)) ≤ length out) e h
+    records_fit h = subst (λ (q : Result (Option ℕ) Refusal). length (records_text (standing q room)) ≤ length out) e h
 
     pub records_stand : (v : ℕ) (x : List ℕ) → v ≡ length (records_text (take n room)) → x ≡ wrote out (records_text (take n room))
         → (v ≡ length (records_text (standing s room))) × (x ≡ wrote out (records_text (standing s room)))
     records_stand v x f g =
-        let t = sym (ap (λ (q : Stands). records_text (standing q room)) e) in
+        let t = sym (ap (λ (q : Result (Option ℕ) Refusal). records_text (standing q room)) e) in
         (f ∙ ap length t, g ∙ ap (wrote out) t)
 
 -- ---- a call: what stands in the room are the records of what it ended
 
-stand_records : (o : Outcome) (b room : List ℕ) → standing (stands_by o b) (wrote room (records_by o b)) ≡ records_by o b
-stand_records outcome.More b room = refl
-stand_records (outcome.Line n) b room = take_wrote room (records_by (outcome.Line n) b)
-stand_records (outcome.Refused n p) b room = take_wrote room (records_by (outcome.Refused n p) b)
+stand_records : (o : Result (Option ℕ) Refusal) (b room : List ℕ) → standing (stands_by o b) (wrote room (records_by o b)) ≡ records_by o b
+stand_records (Ok None) b room = refl
+stand_records (Ok (Some n)) b room = take_wrote room (records_by (Ok (Some n)) b)
+stand_records (Err e) b room = take_wrote room (records_by (Err (refusal_at e.number e.place)) b)
 
-stand_within : (o : Outcome) (b room : List ℕ) → 399 ≤ length room → Stood (stands_by o b) (wrote room (records_by o b))
-stand_within outcome.More b room h = tt
-stand_within (outcome.Line n) b room h =
-    let l = records_most (outcome.Line n) b in
-    omega (arith, l, length_wrote room (records_by (outcome.Line n) b) (omega (arith, l)))
-stand_within (outcome.Refused n p) b room h = omega (arith, length_wrote room (records_by (outcome.Refused n p) b) (omega arith))
+stand_within : (o : Result (Option ℕ) Refusal) (b room : List ℕ) → 399 ≤ length room → Stood (stands_by o b) (wrote room (records_by o b))
+stand_within (Ok None) b room h = tt
+stand_within (Ok (Some n)) b room h =
+    let l = records_most (Ok (Some n)) b in
+    omega (arith, l, length_wrote room (records_by (Ok (Some n)) b) (omega (arith, l)))
+stand_within (Err e) b room h = omega (arith, length_wrote room (records_by (Err (refusal_at e.number e.place)) b) (omega arith))
 
-stand_lines : (o : Outcome) (b : List ℕ) → lines_in (stands_by o b) ≡ lines_by o
-stand_lines outcome.More b = refl
-stand_lines (outcome.Line n) b = refl
-stand_lines (outcome.Refused n p) b = refl
+stand_lines : (o : Result (Option ℕ) Refusal) (b : List ℕ) → lines_in (stands_by o b) ≡ lines_by o
+stand_lines (Ok None) b = refl
+stand_lines (Ok (Some n)) b = refl
+stand_lines (Err e) b = refl
 
 call_joined : (s : Joiner) (b p room : List ℕ) → fit s b ≡ true → 399 ≤ length room → call_of s b p room ≡ joined (join_of s b p) room
 unfolding call_of
@@ -167,14 +157,14 @@ module _ (s : Joiner) (b p room : List ℕ) (f : fit s b ≡ true) (h : length r
 
   pub call_within : Stood r.stands x
   call_within =
-      subst (λ (v : Stands). Stood v x) (sym stands_is)
+      subst (λ (v : Result (Option ℕ) Refusal). Stood v x) (sym stands_is)
       (subst (Stood (stands_by (join_of s b p).answer.outcome (join_of s b p).buffer)) (sym room_is)
       (stand_within (join_of s b p).answer.outcome (join_of s b p).buffer room long))
 
   text_is : records_text (standing r.stands x) ≡ ran_text (join_of s b p)
   unfolding outcome_text
   text_is =
-      ap (λ (v : Stands). records_text (standing v x)) stands_is
+      ap (λ (v : Result (Option ℕ) Refusal). records_text (standing v x)) stands_is
       ∙ ap (λ (l : List ℕ). records_text (standing (stands_by (join_of s b p).answer.outcome (join_of s b p).buffer) l)) room_is
       ∙ ap records_text (stand_records (join_of s b p).answer.outcome (join_of s b p).buffer room)
 

@@ -12,11 +12,8 @@ use Rattle.text.proofs.Slices.{drop_take}
 use Rattle.text.proofs.Writes.{take_wrote}
 use borrow.Author.Tests.{lt-ltb}
 use Rattle.text.proofs.Tests.{and_r}
-use Rattle.text.specs.declared.Answer.TheVariants.{Wrote}
 use Rattle.text.specs.Room.{wrote}
 use Rattle.joiner.specs.declared.Joiner.{Joiner}
-use Rattle.joiner.specs.declared.Outcome.{Outcome}
-use Rattle.joiner.specs.declared.Outcome.TheVariants as outcome
 use Rattle.joiner.specs.Step.{start}
 use Rattle.joiner.specs.Lines.{Given, lines_of, ending_of}
 use Rattle.joiner.specs.Join.{Ran, join_of, end_of}
@@ -28,19 +25,22 @@ use Rattle.wording.specs.Words.{wording_from, wording_of}
 use Rattle.printing.specs.Printing.{longest, may_call, may_print, lines_by, outcome_text, ran_text, Print, none_yet, and_then, print_from, print_of, PartPrint, printed_by, unprinted, part_print}
 use Rattle.printing.specs.Prints.{lines_text, Prints, done, call}
 use Rattle.printing.proofs.LoopLaws.{may_fit, fit_on, used_some, print_on, print_some}
+use Rattle.std.proofs.Common.{Ok}
+use Rattle.std.proofs.Common.{Result, Err, Option, Some, None}
+use Rattle.text.specs.declared.Refusal.{Refusal}
 
 -- ---- the text of what a call gives
 
-given_text : (o : Outcome) (b : List ℕ) (l : List Given) → lines_text (given_of o b ++ l) ≡ outcome_text o b ++ lines_text l
+given_text : (o : Result (Option ℕ) Refusal) (b : List ℕ) (l : List Given) → lines_text (given_of o b ++ l) ≡ outcome_text o b ++ lines_text l
 unfolding lines_text outcome_text wording_of wording_from
-given_text outcome.More b l = refl
-given_text (outcome.Line n) b l = refl
-given_text (outcome.Refused k n) b l = refl
+given_text (Ok None) b l = refl
+given_text (Ok (Some n)) b l = refl
+given_text (Err e) b l = refl
 
-given_lines : (o : Outcome) (b : List ℕ) (l : List Given) → length (given_of o b ++ l) ≡ lines_by o + length l
-given_lines outcome.More b l = omega arith
-given_lines (outcome.Line n) b l = omega arith
-given_lines (outcome.Refused k n) b l = omega arith
+given_lines : (o : Result (Option ℕ) Refusal) (b : List ℕ) (l : List Given) → length (given_of o b ++ l) ≡ lines_by o + length l
+given_lines (Ok None) b l = omega arith
+given_lines (Ok (Some n)) b l = omega arith
+given_lines (Err e) b l = omega arith
 
 -- ---- a print is some calls of the joiner
 
@@ -114,23 +114,23 @@ print_gives (suc fuel) s s' b c t p k n m e =
 
 -- ---- a call that writes is such a print, and its text is handed over
 
-pub wrote_some : (s : Joiner) (b p out : List ℕ) (w : ℕ) → (part_print s b p out).answer.answer ≡ Wrote w → may_print s b (length out) ≡ true
+pub wrote_some : (s : Joiner) (b p out : List ℕ) (w : ℕ) → (part_print s b p out).answer.answer ≡ Ok w → may_print s b (length out) ≡ true
 unfolding part_print
 wrote_some s b p out w = go (may_print s b (length out))
   where
-    go : (t : Bool) → (cond t (printed_by (print_of s b p (length out)) out) (unprinted s b out)).answer.answer ≡ Wrote w → t ≡ true
+    go : (t : Bool) → (cond t (printed_by (print_of s b p (length out)) out) (unprinted s b out)).answer.answer ≡ Ok w → t ≡ true
     go true e = refl
     go false e = let z : ◌≡◌ {A = ℕ} 0 1 = cc in absurd (omega arith)
 
-handed : (w : ℕ) (out : List ℕ) (P : Print) → (printed_by P out).answer.answer ≡ Wrote w → take w (wrote out P.text) ≡ P.text
+handed : (w : ℕ) (out : List ℕ) (P : Print) → (printed_by P out).answer.answer ≡ Ok w → take w (wrote out P.text) ≡ P.text
 handed w out P e = let m : length P.text ≡ w = cc in ap (λ (v : ℕ). take v (wrote out P.text)) (sym m) ∙ take_wrote out P.text
 
 call_gives : (s s' : Joiner) (b c t : List ℕ) (k n w : ℕ) (out : List ℕ) (A : PartPrint) → A ≡ printed_by (print_of s b (take n c) (length out)) out
-    → A.answer.answer ≡ Wrote w → Gives A.answer.state A.buffer (drop A.answer.used c) t k s'
+    → A.answer.answer ≡ Ok w → Gives A.answer.state A.buffer (drop A.answer.used c) t k s'
     → Gives s b c (take w A.out ++ t) (A.answer.lines + k) s'
 unfolding print_of
 call_gives s s' b c t k n w out A e =
-    subst (λ (B : PartPrint). B.answer.answer ≡ Wrote w → Gives B.answer.state B.buffer (drop B.answer.used c) t k s'
+    subst (λ (B : PartPrint). B.answer.answer ≡ Ok w → Gives B.answer.state B.buffer (drop B.answer.used c) t k s'
     → Gives s b c (take w B.out ++ t) (B.answer.lines + k) s') (sym e)
     (λ f g. subst (λ (u : List ℕ). Gives s b c (u ++ t) (P.lines + k) s') (sym (handed w out P f))
     (print_gives (length (take n c)) s s' b c t (take n c) k n (length out) refl g))
@@ -177,7 +177,7 @@ from_fit (suc fuel) s b p room f =
     go true h = h
     go false h = f
 
-module _ (s : Joiner) (b p out : List ℕ) (w : ℕ) (e : (part_print s b p out).answer.answer ≡ Wrote w) where
+module _ (s : Joiner) (b p out : List ℕ) (w : ℕ) (e : (part_print s b p out).answer.answer ≡ Ok w) where
   printed_so : part_print s b p out ≡ printed_by (print_of s b p (length out)) out
   printed_so = print_some s b p out (wrote_some s b p out w e)
 
@@ -205,7 +205,7 @@ enough : List ℕ
 enough = replicate longest 0
 
 fit_wrote : (s : Joiner) (b p : List ℕ) → fit s b ≡ true
-    → (part_print s b p enough).answer.answer ≡ Wrote (length (print_of s b p (length enough)).text)
+    → (part_print s b p enough).answer.answer ≡ Ok (length (print_of s b p (length enough)).text)
 unfolding enough
 fit_wrote s b p f = ap (λ (A : PartPrint). A.answer.answer) (print_some s b p enough (ap (λ (t : Bool). t && leb longest (length enough)) f))
 
@@ -218,7 +218,7 @@ to_end_lem (suc fuel) s b (x ∷ xs) h f =
     let n : ℕ = length c in
     let A : PartPrint = part_print s b (take n c) enough in
     let w : ℕ = length (print_of s b (take n c) (length enough)).text in
-    let i : A.answer.answer ≡ Wrote w = fit_wrote s b (take n c) f in
+    let i : A.answer.answer ≡ Ok w = fit_wrote s b (take n c) f in
     let e : take n c ≡ c = take_all n c (le_refl n) in
     let u : 0 < A.answer.used = print_uses s b (take n c) enough w i (omega (arith, ap length e)) in
     let r = to_end_lem fuel A.answer.state A.buffer (drop A.answer.used c) (omega (arith, length-drop A.answer.used c)) (print_fit s b (take n c) enough w i) in

@@ -1,16 +1,14 @@
 -- A part of a capture as text: call after call of the joiner, and of each line that it ends the records as text, in order.
-use Rattle.std.specs.Prelude.{ℕ, zero, suc, ◌+◌, ◌-◌, List, [], ◌++◌, Bool, ◌&&◌, cond, length, drop, leb, ltb}
-use Rattle.text.specs.declared.Answer.{Answer}
-use Rattle.text.specs.declared.Answer.TheVariants.{Wrote, Refused}
-use Rattle.text.specs.Room.{wrote}
+use Rattle.std.specs.Prelude.{ℕ, zero, suc, ◌+◌, ◌-◌, List, [], ◌++◌, Bool, ◌&&◌, cond, length, drop, leb, ltb, Result, Ok, Err}
+use Rattle.text.specs.Room.{wrote, refusal_at}
 use Rattle.joiner.specs.declared.Joiner.{Joiner}
-use Rattle.joiner.specs.declared.Outcome.{Outcome}
-use Rattle.joiner.specs.declared.Outcome.TheVariants as outcome
 use Rattle.joiner.specs.Join.{Ran, join_of}
 use Rattle.wording.specs.Words.{wording_of}
 use Rattle.wording.specs.Steps.{worded_text}
 use Rattle.lister.specs.Lister.{records_by, fit}
 use Rattle.printing.specs.declared.Printed.{Printed}
+use Rattle.text.specs.declared.Refusal.{Refusal}
+use Rattle.std.specs.Prelude.{Option, Some, None}
 
 -- ---- one call of the joiner: the text of the records that it gives, and how many lines it ends
 
@@ -18,13 +16,13 @@ use Rattle.printing.specs.declared.Printed.{Printed}
 abbrev pub records_text : List ℕ → List ℕ
 records_text rs = worded_text (wording_of rs)
 
-unfoldable pub outcome_text : Outcome → List ℕ → List ℕ
+unfoldable pub outcome_text : Result (Option ℕ) Refusal → List ℕ → List ℕ
 outcome_text o b = records_text (records_by o b)
 
-abbrev pub lines_by : Outcome → ℕ
-lines_by outcome.More = 0
-lines_by (outcome.Line n) = 1
-lines_by (outcome.Refused n p) = 1
+abbrev pub lines_by : Result (Option ℕ) Refusal → ℕ
+lines_by (Ok None) = 0
+lines_by (Ok (Some n)) = 1
+lines_by (Err e) = 1
 
 -- ---- call after call
 
@@ -79,14 +77,14 @@ pub record PartPrint : Type 0 where
   pub buffer : List ℕ
   pub out : List ℕ
 
-abbrev pub printed : Joiner → ℕ → ℕ → Answer → Printed
+abbrev pub printed : Joiner → ℕ → ℕ → Result ℕ Refusal → Printed
 printed s n k a = record { state = s; used = n; lines = k; answer = a }
 
 abbrev pub printed_by : Print → List ℕ → PartPrint
-printed_by p out = record { answer = printed p.state p.used p.lines (Wrote (length p.text)); buffer = p.buffer; out = wrote out p.text }
+printed_by p out = record { answer = printed p.state p.used p.lines (Ok (length p.text)); buffer = p.buffer; out = wrote out p.text }
 
 abbrev pub unprinted : Joiner → List ℕ → List ℕ → PartPrint
-unprinted s b out = record { answer = printed s 0 0 (Refused 19 0); buffer = b; out = out }
+unprinted s b out = record { answer = printed s 0 0 (Err (refusal_at 19 0)); buffer = b; out = out }
 
 -- what the joiner refuses as 19, and less room than any line's text may take, is refused as 19; then nothing is used and nothing lent has changed
 abbrev pub may_print : Joiner → List ℕ → ℕ → Bool

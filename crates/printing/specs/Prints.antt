@@ -1,6 +1,5 @@
 -- A whole capture as text: the text of its lines, and calls over what is left of it, state and line buffer handed on from call to call.
-use Rattle.std.specs.Prelude.{ℕ, ◌+◌, ◌≡◌, List, [], ◌∷◌, ◌++◌, take, drop}
-use Rattle.text.specs.declared.Answer.TheVariants.{Wrote}
+use Rattle.std.specs.Prelude.{ℕ, ◌+◌, ◌≡◌, List, [], ◌∷◌, ◌++◌, take, drop, Ok}
 use Rattle.joiner.specs.declared.Joiner.{Joiner}
 use Rattle.joiner.specs.Lines.{Given, line, refused}
 use Rattle.reading.specs.Reading.{reading_of}
@@ -21,6 +20,6 @@ lines_text (g ∷ gs) = records_text (given_records g) ++ lines_text gs
 -- and what it used goes. All that is handed over, in order, how many lines are told, and the state that is left.
 pub data Prints : Joiner → List ℕ → List ℕ → List ℕ → ℕ → Joiner → Type 0 where
   done : {s : Joiner} {b : List ℕ} → Prints s b [] [] 0 s
-  call : {s s' : Joiner} {b c t : List ℕ} {k : ℕ} (n : ℕ) (out : List ℕ) (w : ℕ) → (part_print s b (take n c) out).answer.answer ≡ Wrote w
+  call : {s s' : Joiner} {b c t : List ℕ} {k : ℕ} (n : ℕ) (out : List ℕ) (w : ℕ) → (part_print s b (take n c) out).answer.answer ≡ Ok w
       → Prints (part_print s b (take n c) out).answer.state (part_print s b (take n c) out).buffer (drop (part_print s b (take n c) out).answer.used c) t k s'
       → Prints s b c (take w (part_print s b (take n c) out).out ++ t) ((part_print s b (take n c) out).answer.lines + k) s'

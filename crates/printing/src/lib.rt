@@ -9,9 +9,9 @@ ghost use Rattle.lister.specs.Lister.{fit};
 ghost use Rattle.printing.specs.Printing.{longest, may_call, may_print, ran_text, part_print, records_text};
 ghost use Rattle.printing.specs.Steps.{standing, Stood, lines_in, called_by};
 
-use joiner::{End, Joiner};
-use lister::{Stands, next_answer};
-use text::Answer;
+use joiner::Joiner;
+use lister::next_answer;
+use text::Refusal;
 use wording::records_text;
 
 // What printing a part gives: the state, how many bytes were used, how many lines they ended, and how many bytes of text were written.
@@ -20,7 +20,7 @@ pub struct Printed {
     pub state: Joiner,
     pub used: usize,
     pub lines: usize,
-    pub answer: Answer,
+    pub answer: Result<usize, Refusal>,
 }
 
 // What one call of the joiner gives: the state, how many bytes were used, how many lines they ended, and how many bytes of text those are.
@@ -39,38 +39,21 @@ const LONGEST: usize = 2394;
 fn possible(state: Joiner) -> bool
     ensures { result ≡ reachable state }
 {
-    let e = state.end();
-    match e {
-        End::Nothing => true,
-        End::Cut => true,
-        End::Refused {
-            number: _,
-            place: _,
-        } => false,
-    }
+    state.end().is_ok()
 }
 
 // Whether a part is printed: the line buffer and the state are the joiner's, and there is room for any line's text.
 fn may_print(state: Joiner, buffer: &[u8], room: usize) -> bool
     ensures { result ≡ may_print state buffer.now room }
 {
-    if buffer.len() != 1024 {
-        return false;
-    }
-    if !possible(state) {
-        return false;
-    }
-    LONGEST <= room
+    buffer.len() == 1024 && possible(state) && LONGEST <= room
 }
 
 // Whether a call is made: bytes of the part are left, and room for any line's text.
 fn may_call(left: usize, room: usize) -> bool
     ensures { result ≡ may_call left room }
 {
-    if left == 0 {
-        return false;
-    }
-    LONGEST <= room
+    0 < left && LONGEST <= room
 }
 
 // The text of records in room for it; tells how many bytes it is.
@@ -78,44 +61,26 @@ fn put_text(records: &[u8], out: &mut [u8]) -> usize
     requires { length (records_text records.now) ≤ length out.old }
     ensures { (result ≡ length (records_text records.now)) × (out.new ≡ wrote out.old (records_text records.now)) }
 {
-    let a = records_text(records, out);
-    match a {
-        Answer::Wrote(n) => n,
-        Answer::Refused {
-            number: _,
-            place: _,
-        } => 0,
-    }
+    records_text(records, out).unwrap_or(0)
 }
 
 // The text of what stands in a room, in room for it; tells how many bytes it is.
-fn put_stands(s: Stands, room: &[u8], out: &mut [u8]) -> usize
+fn put_stands(s: Result<Option<usize>, Refusal>, room: &[u8], out: &mut [u8]) -> usize
     requires stood { Stood s room.now }
     requires room_in_bounds { length (records_text (standing s room.now)) ≤ length out.old }
     ensures { (result ≡ length (records_text (standing s room.now))) × (out.new ≡ wrote out.old (records_text (standing s room.now))) }
 {
-    match s {
-        Stands::Nothing => 0,
-        Stands::Records(n) => put_text(&room[..n], out),
-        Stands::Refused {
-            number: _,
-            place: _,
-        } => 0,
-    }
+    let Ok(Some(n)) = s else {
+        return 0;
+    };
+    put_text(&room[..n], out)
 }
 
 // How many lines what stands in a room is of.
-fn lines_in(s: Stands) -> usize
+fn lines_in(s: Result<Option<usize>, Refusal>) -> usize
     ensures { result ≡ lines_in s }
 {
-    match s {
-        Stands::Nothing => 0,
-        Stands::Records(_) => 1,
-        Stands::Refused {
-            number: _,
-            place: _,
-        } => 0,
-    }
+    usize::from(matches!(s, Ok(Some(_))))
 }
 
 // One call of the joiner, and the text of the line that it ended at the start of the room for it.
@@ -134,20 +99,16 @@ fn print_call(
     ensures out_after { out.new ≡ wrote out.old (ran_text (join_of state buffer.old part.now)) }
 {
     let r = next_answer(state, buffer, part, room);
-    let next = r.state;
-    let used = r.used;
-    let s = r.stands;
-    let text = put_stands(s, room, out);
-    let lines = lines_in(s);
     Called {
-        state: next,
-        used,
-        lines,
-        text,
+        state: r.state,
+        used: r.used,
+        lines: lines_in(r.stands),
+        text: put_stands(r.stands, room, out),
     }
 }
 
-// Call after call, as long as bytes of the part are left and room for any line's text.
+// Call after call, as long as bytes of the part are left and room for any line's text; each call says how far it came, so no count runs ahead of them. State,
+// buffer and part are three parameters, as `Joiner::join` has them.
 fn print_calls(
     state: Joiner,
     buffer: &mut [u8],
@@ -176,7 +137,7 @@ fn print_calls(
         state: s,
         used: at,
         lines,
-        answer: Answer::Wrote(n),
+        answer: Ok(n),
     }
 }
 
@@ -191,12 +152,13 @@ pub fn print_part(state: Joiner, buffer: &mut [u8], part: &[u8], out: &mut [u8])
             state,
             used: 0,
             lines: 0,
-            answer: Answer::Refused {
+            answer: Err(Refusal {
                 number: 19,
                 place: 0,
-            },
+            }),
         };
     }
+    // As many bytes as the records of any line have; `put_stands` goes by the part of it that a line's take.
     let mut room = [0u8; 399];
     print_calls(state, buffer, part, &mut room, out)
 }

@@ -8,13 +8,13 @@ use Rattle.lister.proofs.put_line.Goals as goal
 
 pub put_refused-requires : goal.put_refused-requires
 put_refused-requires c =
-    let a = c.args in let r = c.read-a in
-    record { in_bounds = subst (λ (n : ℕ). 4 ≤ n) (sym r.auto.out) (omega (arith, c.requires)); place_bound = line_place a.line.now a.room.now c.requires _ _ (sym c.in-Refused.is ∙ r.ensures.0) }
+    let a = c.args in let r = c.read in
+    record { in_bounds = subst (λ (n : ℕ). 4 ≤ n) (sym r.auto.out) (omega (arith, c.requires)); place_bound = line_place a.line.now a.room.now c.requires _ _ (sym c.in-Err.is ∙ r.ensures.0) }
 
-pub returns-in-Wrote : goal.returns-in-Wrote
-returns-in-Wrote c = let a = c.args in let r = c.read-a in line_wrote a.line.now a.room.now c.requires _ r.new.out (sym c.in-Wrote.is ∙ r.ensures.0) r.ensures.1
+pub returns-in-Ok : goal.returns-in-Ok
+returns-in-Ok c = let a = c.args in let r = c.read in line_wrote a.line.now a.room.now c.requires _ r.new.out (sym c.in-Ok.is ∙ r.ensures.0) r.ensures.1
 
-pub returns-in-Refused : goal.returns-in-Refused
-returns-in-Refused c =
-    let a = c.args in let r = c.read-a in let p = c.put_refused in
-    line_listed a.line.now a.room.now c.requires c.in-Refused.number c.in-Refused.place r.new.out p.new.room p.result (sym c.in-Refused.is ∙ r.ensures.0) r.ensures.1 p.ensures.0 p.ensures.1
+pub returns-in-Err : goal.returns-in-Err
+returns-in-Err c =
+    let a = c.args in let r = c.read in let p = c.put_refused in
+    line_listed a.line.now a.room.now c.requires _ _ r.new.out p.new.room p.result (sym c.in-Err.is ∙ r.ensures.0) r.ensures.1 p.ensures.0 p.ensures.1
