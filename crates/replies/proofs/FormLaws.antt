@@ -1,12 +1,12 @@
 -- What a line is by the word that it begins with: what specs/Lines says of whole lines, as the code finds it from left to right. Assumes nothing.
-use Prim.Native.Nat.{ℕ, ◌<◌, ◌≤◌}
+use Prim.Native.Nat.{ℕ}
 use mathlib.Core.Path.{◌≡◌, refl, sym, ap, ◌∙◌}
 use mathlib.Core.List.{List, [], ◌∷◌, ◌++◌, append-nil}
-use mathlib.Core.Bool.{Bool, true, false, cond, not, ◌||◌, and-false}
-use lib.ListN.{length, get_or}
-use lib.Dec.{eqb}
+use mathlib.Core.Bool.{Bool, true, false, cond, not, ◌&&◌, ◌||◌, and-false}
+use lib.ListN.{length}
+use lib.Dec.{eqb, leb}
 use native.Mathlib.Omega.{arith}
-use borrow.Author.Tests.{le-leb, lt-leb}
+use Rattle.std.proofs.lemmas.Grind.{common_steps}
 use Rattle.text.specs.Bytes.{bytes, same_bytes, is_letter, is_word}
 use Rattle.text.specs.Lists.{all_of, any_of, up_to, is_nil}
 use Rattle.text.proofs.Tests.{and_l, and_r, no_case, either}
@@ -118,54 +118,23 @@ odd_form w x r h o e q n =
     same true = refl
     same false = refl
 
--- a keyword, test by test
-module _ (k : List ℕ) where
-  pub keyword_no_name : is_name k ≡ false → false ≡ is_keyword k
-  unfolding is_keyword
-  keyword_no_name e = rw e
+-- a word is a name by its length and its first byte
+name_of_word : (w : List ℕ) → all_of is_word w ≡ true → is_name w ≡ leb (length w) 64 && begins is_letter w
+unfolding is_name all_of
+name_of_word [] e = refl
+name_of_word (b ∷ s) e = rw (and_r (is_word b) (all_of is_word s) e) (go (leb (length s) 63) (leb (length (b ∷ s)) 64) refl refl)
+  where
+    go : (x y : Bool) → leb (length s) 63 ≡ x → leb (length (b ∷ s)) 64 ≡ y → is_letter b && (true && x) ≡ y && is_letter b
+    go true true p q = go' (is_letter b)
+      where
+        go' : (z : Bool) → z && (true && true) ≡ true && z
+        go' true = refl
+        go' false = refl
+    go false false p q = and-false (is_letter b)
+    go true false p q = absurd (grind (arith, common_steps))
+    go false true p q = absurd (grind (arith, common_steps))
 
-  pub keyword_begin : same_bytes k begin_word ≡ true → false ≡ is_keyword k
-  unfolding is_keyword
-  keyword_begin e = rw e (sym (and-false (is_name k)))
-
-  pub keyword_close : same_bytes k begin_word ≡ false → same_bytes k close_word ≡ true → false ≡ is_keyword k
-  unfolding is_keyword
-  keyword_close e f = simp (e, f, and-false (is_name k))
-
-  pub keyword_end : is_name k ≡ true → same_bytes k begin_word ≡ false → same_bytes k close_word ≡ false → not (same_bytes k end_word) ≡ is_keyword k
-  unfolding is_keyword
-  keyword_end n e f = rw (n, e, f)
-
--- a word that is a name: by its length and its first byte
-module _ (w : List ℕ) where
-  pub no_name_empty : length w ≡ 0 → is_name w ≡ false
-  unfolding is_name
-  no_name_empty = go w
-    where
-      go : (w : List ℕ) → length w ≡ 0 → is_name w ≡ false
-      go [] h = refl
-      go (b ∷ s) h = absurd (omega arith)
-
-  pub no_name_long : 64 < length w → is_name w ≡ false
-  unfolding is_name
-  no_name_long = go w
-    where
-      go : (w : List ℕ) → 64 < length w → is_name w ≡ false
-      go [] h = absurd (omega arith)
-      go (b ∷ s) h = let z : 63 < length s = omega arith in rw (lt-leb (length s) 63 z, and-false (all_of is_word s)) (and-false (is_letter b))
-
-  pub no_name_other : is_letter (get_or w 0 0) ≡ false → is_name w ≡ false
-  unfolding is_name
-  no_name_other = go w
-    where
-      go : (w : List ℕ) → is_letter (get_or w 0 0) ≡ false → is_name w ≡ false
-      go [] e = refl
-      go (b ∷ s) e = rw e
-
-  pub name_of : all_of is_word w ≡ true → 0 < length w → length w ≤ 64 → is_letter (get_or w 0 0) ≡ true → is_name w ≡ true
-  unfolding is_name all_of
-  name_of = go w
-    where
-      go : (w : List ℕ) → all_of is_word w ≡ true → 0 < length w → length w ≤ 64 → is_letter (get_or w 0 0) ≡ true → is_name w ≡ true
-      go [] a h l e = absurd (omega arith)
-      go (b ∷ s) a h l e = let z : length s ≤ 63 = omega arith in rw (e, and_r (is_word b) (all_of is_word s) a, le-leb (length s) 63 z)
+pub keyword_of_word : (w : List ℕ) → all_of is_word w ≡ true
+    → is_keyword w ≡ (leb (length w) 64 && begins is_letter w) && not (same_bytes w begin_word || (same_bytes w close_word || same_bytes w end_word))
+unfolding is_keyword
+keyword_of_word w e = ap (λ (b : Bool). b && not (same_bytes w begin_word || (same_bytes w close_word || same_bytes w end_word))) (name_of_word w e)

@@ -4,7 +4,6 @@ pub mod LineLaws
 pub mod FindLaws
 pub mod RunLaws
 pub mod JudgeLaws
-pub mod ValueLaws
 pub mod Forms
 pub mod TurnLaws
 pub mod Refusals

@@ -8,6 +8,9 @@ use denote.Triple.Clauses
 use Rattle.replies.specs.contracts.is_end as is-end-fn
 use Rattle.replies.proofs.is_end.Kinds as is-end-kinds
 use Rattle.replies.proofs.is_end.Reads as is-end-reads
+use Rattle.replies.specs.contracts.begins_quote as begins-quote-fn
+use Rattle.replies.proofs.begins_quote.Kinds as begins-quote-kinds
+use Rattle.replies.proofs.begins_quote.Reads as begins-quote-reads
 use Rattle.replies.specs.contracts.is_keyword as is-keyword-fn
 use Rattle.replies.proofs.is_keyword.Kinds as is-keyword-kinds
 use Rattle.replies.proofs.is_keyword.Reads as is-keyword-reads
@@ -25,6 +28,14 @@ pub is_end_only :
     → is-end-reads.Post κs a r s → is-end-reads.Post κs a r' s'
     → r ≡ r'
 is_end_only κs a r r' s s' p q = p ∙ sym q
+
+pub begins_quote_only :
+    (κs : Lifetimes.Lfts 1) (a : World.ArgsD begins-quote-fn.signature κs)
+    (r r' : World.ResD begins-quote-fn.signature κs)
+    (s s' : Clauses.AtExit (Kinds.ended_of 1 begins-quote-kinds.ps begins-quote-kinds.r) κs)
+    → begins-quote-reads.Post κs a r s → begins-quote-reads.Post κs a r' s'
+    → r ≡ r'
+begins_quote_only κs a r r' s s' p q = p ∙ sym q
 
 pub is_keyword_only :
     (κs : Lifetimes.Lfts 1) (a : World.ArgsD is-keyword-fn.signature κs)

@@ -1,5 +1,5 @@
 -- Reading line by line: a line and what is left after it, the whole, and what the verdict makes of it. Assumes nothing.
-use Prim.Native.Nat.{ℕ, ◌+◌, ◌-◌, ◌<◌, ◌≤◌}
+use Prim.Native.Nat.{ℕ, ◌+◌, ◌-◌, ◌*◌, ◌<◌, ◌≤◌}
 use mathlib.Core.Path.{◌≡◌, refl, sym, ap, ◌∙◌}
 use mathlib.Core.List.{List, [], ◌∷◌}
 use mathlib.Core.Bool.{false, cond}
@@ -8,17 +8,19 @@ use native.Mathlib.Omega.{arith}
 use borrow.Author.Tests.{eq-eqb, ne_eqb, le-leb, lt-leb}
 use lib.ListN.{length, take, drop, set, length-drop, drop_of_length-le}
 use lib.Seq.{sets, drop-drop}
-use Rattle.text.specs.declared.Answer.TheVariants as answers
 use Rattle.text.proofs.Slices.{part_from}
 use Rattle.replies.specs.declared.Form.{Form}
 use Rattle.replies.specs.declared.Form.TheVariants.{Nothing, Item, Group, Close, End, Wrong, Open}
 use Rattle.replies.specs.Lines.{end_len, form_of, text_len, line_len, Line, is_last, lines_from}
 use Rattle.replies.specs.Order.{on_turn}
 use Rattle.replies.specs.Reading.{turn_by, record_by}
+use Rattle.replies.specs.declared.Step.TheVariants as steps
 use Rattle.replies.specs.declared.Stand.{Stand}
 use Rattle.replies.specs.declared.Stand.TheVariants as stands
-use Rattle.replies.specs.Steps.{ran, run, run_at, afterwards, Onward, Through, closed_stand}
+use Rattle.replies.specs.Steps.{ran, run, run_at, Ahead}
 use Rattle.replies.proofs.LineLaws.{text_within, line_within, line_on, lines_step}
+use Rattle.std.proofs.Common.{Ok, Err}
+use Rattle.text.specs.Room.{refusal_at}
 
 -- the form that the code saw
 pub seen : (s : List ℕ) (at : ℕ) (r : Form) → r ≡ form_of (take (length s - at) (drop at s)) → {f : Form} → r ≡ f → form_of (drop at s) ≡ f
@@ -42,7 +44,7 @@ module _ (s : List ℕ) (at d w : ℕ) (room : List ℕ) (h : at < length s) (f 
   on = omega (arith, size)
 
   pub line_run : run_at s at d w room ≡
-      on_turn (turn_by f) d (length s) at (λ n k. ran (answers.Refused n k) room) (ran (answers.Wrote (w + length (record_by at f))) (sets room w (record_by at f)))
+      on_turn (turn_by f) d (length s) at (λ n k. ran (Err (refusal_at n k)) room) (ran (Ok (w + length (record_by at f))) (sets room w (record_by at f)))
       (λ n. run n (length s) (w + length (record_by at f)) (sets room w (record_by at f)) (cond (is_last f) [] (lines_from 0 q (drop q s))))
   unfolding run
   line_run =
@@ -82,44 +84,77 @@ module _ (s : List ℕ) (at d w : ℕ) (room : List ℕ) (h : at < length s) whe
   -- lines that are the last
   module _ (f : Form) (e : form_of (drop at s) ≡ f) where
     last : run_at s at d w room ≡
-        on_turn (turn_by f) d (length s) at (λ n k. ran (answers.Refused n k) room) (ran (answers.Wrote (w + length (record_by at f))) (sets room w (record_by at f)))
+        on_turn (turn_by f) d (length s) at (λ n k. ran (Err (refusal_at n k)) room) (ran (Ok (w + length (record_by at f))) (sets room w (record_by at f)))
         (λ n. run n (length s) (w + length (record_by at f)) (sets room w (record_by at f)) (cond (is_last f) [] (lines_from 0 (at + text_len f + end_len (drop (at + text_len f) s)) (drop (at + text_len f + end_len (drop (at + text_len f) s)) s))))
     last = line_run s at d w room h f (at + text_len f) (at + text_len f + end_len (drop (at + text_len f) s)) e refl refl
 
-  pub deep_run : (n : ℕ) → form_of (drop at s) ≡ Group n → 8 ≤ d → run_at s at d w room ≡ ran (answers.Refused 23 at) room
+  pub deep_run : (n : ℕ) → form_of (drop at s) ≡ Group n → 8 ≤ d → run_at s at d w room ≡ ran (Err (refusal_at 23 at)) room
   deep_run n e l = last (Group n) e ∙ rw (le-leb 8 d l)
 
-  pub lone_run : form_of (drop at s) ≡ Close → d ≡ 0 → run_at s at d w room ≡ ran (answers.Refused 22 at) room
+  pub lone_run : form_of (drop at s) ≡ Close → d ≡ 0 → run_at s at d w room ≡ ran (Err (refusal_at 22 at)) room
   lone_run e l = last Close e ∙ rw (eq-eqb d 0 l)
 
-  pub end_run : (w' : ℕ) (room' : List ℕ) → form_of (drop at s) ≡ End → d < 1 → w' ≡ w + 1 → room' ≡ set room w 67 → run_at s at d w room ≡ ran (answers.Wrote w') room'
+  pub end_run : (w' : ℕ) (room' : List ℕ) → form_of (drop at s) ≡ End → d < 1 → w' ≡ w + 1 → room' ≡ set room w 67 → run_at s at d w room ≡ ran (Ok w') room'
   end_run w' room' e l y z = last End e ∙ rw (eq-eqb d 0 (omega (arith, l)), y, z)
 
-  pub early_run : form_of (drop at s) ≡ End → 1 ≤ d → run_at s at d w room ≡ ran (answers.Refused 24 at) room
+  pub early_run : form_of (drop at s) ≡ End → 1 ≤ d → run_at s at d w room ≡ ran (Err (refusal_at 24 at)) room
   early_run e l = last End e ∙ rw (ne_eqb d 0 (λ z. omega (arith, l, z)))
 
-  pub wrong_run : form_of (drop at s) ≡ Wrong → run_at s at d w room ≡ ran (answers.Refused 21 at) room
+  pub wrong_run : form_of (drop at s) ≡ Wrong → run_at s at d w room ≡ ran (Err (refusal_at 21 at)) room
   wrong_run e = last Wrong e
 
-  pub open_run : form_of (drop at s) ≡ Open → run_at s at d w room ≡ ran (answers.Refused 25 (length s)) room
+  pub open_run : form_of (drop at s) ≡ Open → run_at s at d w room ≡ ran (Err (refusal_at 25 (length s))) room
   open_run e = last Open e
+
+-- ---- by the form r that the code saw: what it does is what the line asks for, and leads where it may
+
+module _ (s : List ℕ) (at d w : ℕ) (room : List ℕ) (g : (length s ≤ 65535) × (at < length s) × (w ≤ 9 * at)) (r : Form) (e : r ≡ form_of (take (length s - at) (drop at s))) where
+  -- its text lies within the text
+  pub fits : {f : Form} → r ≡ f → at + text_len f ≤ length s
+  fits {f} i = text_ends s at d w room g.1 f (at + text_len f) _ (seen s at r e i) refl refl
+
+  -- the next line begins at q, w' bytes of records then stand in room'
+  module _ (q w' : ℕ) (room' : List ℕ) where
+    -- p is where the text ends
+    module _ (f : Form) (p : ℕ) (i : r ≡ f) (ends : p ≡ at + text_len f) (next : q ≡ p + end_len (drop p s)) (l : is_last f ≡ false) where
+      onward : (at < q) × (q ≤ length s)
+      onward = goes_on_lem s at d w room g.1 f p q (seen s at r e i) ends next l
+
+    pub item_on : (k v : ℕ) → r ≡ Item k v → q ≡ at + k + 1 + v + end_len (drop (at + k + 1 + v) s) → w' ≡ w + length (record_by at (Item k v)) → room' ≡ sets room w (record_by at (Item k v))
+        → (run_at s at d w room ≡ run_at s q d w' room') × Ahead s at d (Ok (steps.Next q w'))
+    item_on k v i next y z =
+        let p : at + k + 1 + v ≡ at + (k + 1 + v) = omega arith in
+        let o = onward (Item k v) (at + k + 1 + v) i p next refl in
+        (item_run s at d w room g.1 (at + k + 1 + v) q w' room' next k v (seen s at r e i) p y z, (o.0, o.1, omega (arith, y)))
+
+    pub group_on : (n : ℕ) → r ≡ Group n → q ≡ at + 11 + n + end_len (drop (at + 11 + n) s) → d < 8 → w' ≡ w + length (record_by at (Group n)) → room' ≡ sets room w (record_by at (Group n))
+        → (run_at s at d w room ≡ run_at s q (d + 1) w' room') × Ahead s at d (Ok (steps.Opened q w'))
+    group_on n i next l y z =
+        let p : at + 11 + n ≡ at + (11 + n) = omega arith in
+        let o = onward (Group n) (at + 11 + n) i p next refl in
+        (group_run s at d w room g.1 (at + 11 + n) q w' room' next n (seen s at r e i) p l y z, (o.0, o.1, omega (arith, y), l))
+
+    pub close_on : r ≡ Close → q ≡ at + 8 + end_len (drop (at + 8) s) → (d ≡ 0 → ⊥) → w' ≡ w + 1 → room' ≡ set room w 66
+        → (run_at s at d w room ≡ run_at s q (d - 1) w' room') × Ahead s at d (Ok (steps.Shut q w'))
+    close_on i next l y z =
+        let o = onward Close (at + 8) i refl next refl in
+        (close_run s at d w room g.1 (at + 8) q w' room' next (seen s at r e i) refl l y z, (o.0, o.1, omega (arith, y), omega arith))
+
+  pub nothing_on : (n q : ℕ) → r ≡ Nothing n → q ≡ at + n + end_len (drop (at + n) s) → (run_at s at d w room ≡ run_at s q d w room) × Ahead s at d (Ok (steps.Next q w))
+  nothing_on n q i next =
+      let o = onward q w room (Nothing n) (at + n) i refl next refl in
+      (nothing_run s at d w room g.1 (at + n) q w room next n (seen s at r e i) refl, (o.0, o.1, omega arith))
 
 -- ---- past the text
 
-pub run_past : (s : List ℕ) (at d w : ℕ) (room : List ℕ) → length s ≤ at → run_at s at d w room ≡ ran (answers.Refused 25 (length s)) room
+pub run_past : (s : List ℕ) (at d w : ℕ) (room : List ℕ) → length s ≤ at → run_at s at d w room ≡ ran (Err (refusal_at 25 (length s))) room
 unfolding run lines_from
 run_past s at d w room h = ap (λ (l : List ℕ). run d (length s) w room (lines_from 0 at l)) (drop_of_length-le s h)
 
--- ---- a group that is read to its end, from n on, is one line more of what is around it
+-- ---- a group's lines
 
-pub closed_after : (s : List ℕ) (n d : ℕ) (r : Stand) (room : List ℕ) → Through s n (d + 1) r → afterwards s (d + 1) r room ≡ afterwards s d (closed_stand r) room
-closed_after s n d (stands.Next m w) room h = absurd h
-closed_after s n d (stands.Shut m w) room h = let e : d + 1 - 1 ≡ d = omega arith in ap (λ (k : ℕ). run_at s m k w room) e
-closed_after s n d (stands.Ended w) room h = refl
-closed_after s n d (stands.Refused c p) room h = refl
-
-pub closed_onward : (s : List ℕ) (at n d : ℕ) (r : Stand) → at < n → Through s n (d + 1) r → Onward s at d (closed_stand r)
-closed_onward s at n d (stands.Next m w) l h = absurd h
-closed_onward s at n d (stands.Shut m w) l h = (omega (arith, h.0), h.1, h.2)
-closed_onward s at n d (stands.Ended w) l h = tt
-closed_onward s at n d (stands.Refused c p) l h = tt
+-- where a group's lines have led so far
+abbrev pub Reached : List ℕ → ℕ → ℕ → Stand → Type 0
+Reached s at d (stands.Next n w) = (at ≤ n) × (n ≤ length s) × (w ≤ 9 * n)
+Reached s at d (stands.Shut n w) = (at < n) × (n ≤ length s) × (w ≤ 9 * n) × (1 ≤ d)
+Reached s at d (stands.Ended w) = Unit {0}

@@ -12,18 +12,18 @@ use lib.Seq.{take_at, drop_at, take-add, drop-drop, length-take-le}
 use lib.Dec.{eqb}
 use Rattle.text.specs.Bytes.{bytes}
 use Rattle.text.specs.Lists.{all_of, any_of, is_nil}
-use Rattle.text.specs.declared.Verdict.{Verdict}
-use Rattle.text.specs.declared.Verdict.TheVariants.{Fine, Flawed}
 use Rattle.text.proofs.Tests.{and_l, and_r, and_in, or_r, or_in_r, or_case, no_case}
 use Rattle.replies.specs.declared.Form.{Form}
 use Rattle.replies.specs.declared.Form.TheVariants.{Nothing, Item, Group, Close, End, Wrong, Open}
 use Rattle.replies.specs.Lines.{begins, is_end, line_ends, end_len, begin_word, close_word, end_word, form_of, text_len, line_len, Line, line_at, is_last, lines_from, lines_of}
-use Rattle.replies.specs.Order.{Turn, passes, opens, closes, ends, wrong, unclosed, judge, on_turn}
+use Rattle.replies.specs.Order.{Turn, passes, opens, closes, ends, wrong, unclosed, judge, on_turn, flawed}
 use Rattle.replies.specs.Reading.{turn_by, turn_of, verdict_of}
 use Rattle.replies.specs.Items.{Told, told_by, told_in, unless_flawed, says_of}
 use Rattle.replies.proofs.LineLaws.{lines_step, text_within}
 use Rattle.replies.proofs.Forms.{Row, nothing, item, group, close, end, wrong as is-wrong, open', row_of, blank_form, remark_form, item_form_lem, group_form_lem, close_form, end_form}
 use Rattle.replies.proofs.TurnLaws.{number, number_place, is_fine, unplaced, turn_look}
+use Rattle.std.proofs.Common.{Result, Ok, Err}
+use Rattle.text.specs.declared.Refusal.{Refusal}
 
 -- ---- what lines say: text and form of those that are not empty or remarks, without their places
 
@@ -343,7 +343,7 @@ told_said_lem (l ∷ ls) = go l.form (told_said_lem ls)
     go Wrong ih = ih
     go Open ih = ih
 
-module _ {B : Type 0} (look : Verdict → B) (same : (n p q : ℕ) → look (Flawed n p) ≡ look (Flawed n q)) where
+module _ {B : Type 0} (look : Result Unit Refusal → B) (same : (n p q : ℕ) → look (flawed n p) ≡ look (flawed n q)) where
   said_look : (ls : List Line) (d e : ℕ) → look (judge d e (map turn_of ls)) ≡ look (judge d 0 (unplaced (turns_said (saying ls))))
   unfolding judge saying
   said_look [] d e = same 25 e 0
@@ -352,11 +352,11 @@ module _ {B : Type 0} (look : Verdict → B) (same : (n p q : ℕ) → look (Fla
       rest : List (ℕ × Turn)
       rest = unplaced (turns_said (saying ls))
 
-      one : (u : Turn) → ((n : ℕ) → look (judge n e (map turn_of ls)) ≡ look (judge n 0 rest)) → look (on_turn u d e l.place Flawed Fine (λ n. judge n e (map turn_of ls))) ≡ look (judge d 0 ((0, u) ∷ rest))
+      one : (u : Turn) → ((n : ℕ) → look (judge n e (map turn_of ls)) ≡ look (judge n 0 rest)) → look (on_turn u d e l.place flawed (Ok tt) (λ n. judge n e (map turn_of ls))) ≡ look (judge d 0 ((0, u) ∷ rest))
       one u ih = turn_look look same u d e l.place 0 0 (λ n. judge n e (map turn_of ls)) (λ n. judge n 0 rest) ih
 
       go : (f : Form) → ((n : ℕ) → look (judge n e (map turn_of ls)) ≡ look (judge n 0 rest))
-          → look (on_turn (turn_by f) d e l.place Flawed Fine (λ n. judge n e (map turn_of ls))) ≡ look (judge d 0 (unplaced (turns_said (voice l.text f ++ saying ls))))
+          → look (on_turn (turn_by f) d e l.place flawed (Ok tt) (λ n. judge n e (map turn_of ls))) ≡ look (judge d 0 (unplaced (turns_said (voice l.text f ++ saying ls))))
       go (Nothing n) ih = ih d
       go (Item k v) ih = one passes ih
       go (Group n) ih = one opens ih
@@ -371,9 +371,9 @@ module _ {B : Type 0} (look : Verdict → B) (same : (n p q : ℕ) → look (Fla
       rw (le-ltb 65535 (length s) h, le-ltb 65535 (length t) k)
       (said_look (lines_of s) 0 (length s) ∙ ap (λ (as' : List (List ℕ × Form)). look (judge 0 0 (unplaced (turns_said as')))) e ∙ sym (said_look (lines_of t) 0 (length t)))
 
-fine_says : {A : Type 0} (v : Verdict) (a : A) → unless_flawed v a ≡ cond (is_fine v) (some a) none
-fine_says Fine a = refl
-fine_says (Flawed n p) a = refl
+fine_says : {A : Type 0} (v : Result Unit Refusal) (a : A) → unless_flawed v a ≡ cond (is_fine v) (some a) none
+fine_says (Ok u) a = refl
+fine_says (Err e) a = refl
 
 module _ (t s : List ℕ) (e : saying (lines_of t) ≡ saying (lines_of s)) where
   -- the same items

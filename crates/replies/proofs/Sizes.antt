@@ -8,16 +8,13 @@ use borrow.Author.Tests.{le-leb, ltb-false}
 use lib.ListN.{length, drop, length-append, length-drop}
 use lib.Seq.{drop_at, length-take-le}
 use lib.Dec.{eqb, leb, ltb}
-use Rattle.text.specs.declared.Answer.TheVariants.{Wrote}
-use Rattle.text.specs.declared.Verdict.{Verdict}
-use Rattle.text.specs.declared.Verdict.TheVariants.{Fine, Flawed}
 use Rattle.text.specs.Room.{fitted}
 use Rattle.text.proofs.Tests.{no_case}
 use Rattle.forms.specs.Forms.{is_name}
 use Rattle.replies.specs.declared.Form.{Form}
 use Rattle.replies.specs.declared.Form.TheVariants.{Nothing, Item, Group, Close, End, Wrong, Open}
 use Rattle.replies.specs.Lines.{is_keyword, line_ends, end_len, form_of, text_len, line_len, Line, line_at, is_last, lines_from, lines_of}
-use Rattle.replies.specs.Order.{judge, judged, on_turn}
+use Rattle.replies.specs.Order.{judge, judged, on_turn, flawed}
 use Rattle.replies.specs.Reading.{turn_by, turn_of, record_by, record_of, records_of, verdict_of, read_answer}
 use Rattle.replies.proofs.Fronts.{end_within}
 use Rattle.replies.proofs.LineLaws.{lines_step, text_within, line_within}
@@ -25,6 +22,8 @@ use Rattle.replies.proofs.Forms.{Row, nothing, item, group, close, end, wrong, o
 use Rattle.replies.proofs.TurnLaws.{flawed_fine}
 use Rattle.replies.proofs.Refusals.{verdict_is}
 use Rattle.replies.proofs.Says.{cut_of, end_some, on_read, cons_head, cons_tail, lines_some}
+use Rattle.std.proofs.Common.{Result, Ok, Err}
+use Rattle.text.specs.declared.Refusal.{Refusal}
 
 -- a keyword has a byte
 keyword_some : (k : List ℕ) → is_keyword k ≡ true → 0 < length k
@@ -68,10 +67,10 @@ none_cost = refl
 
 -- the lines after the first one, where one of them ends the reply, pay for themselves
 abbrev Paid : (e p : ℕ) (s : List ℕ) (ls : List Line) → Type 0
-Paid e p s ls = (d : ℕ) → lines_from 0 p s ≡ ls → judge d e (map turn_of ls) ≡ Fine → length (records_of ls) + 26 ≤ 3 * length s
+Paid e p s ls = (d : ℕ) → lines_from 0 p s ≡ ls → judge d e (map turn_of ls) ≡ Ok tt → length (records_of ls) + 26 ≤ 3 * length s
 
 module _ (d e p : ℕ) (s : List ℕ) (ls : List Line) (ih : Paid e (p + line_len s) (drop (line_len s) s) ls) where
-  on : (f : Form) → form_of s ≡ f → is_last f ≡ false → (n : ℕ) → lines_from 0 (p + line_len s) (drop (line_len s) s) ≡ ls → judge n e (map turn_of ls) ≡ Fine
+  on : (f : Form) → form_of s ≡ f → is_last f ≡ false → (n : ℕ) → lines_from 0 (p + line_len s) (drop (line_len s) s) ≡ ls → judge n e (map turn_of ls) ≡ Ok tt
       → length (record_by p f ++ records_of ls) + 26 ≤ 3 * length s
   on f y o n t v =
       let j = line_len s in
@@ -80,17 +79,17 @@ module _ (d e p : ℕ) (s : List ℕ) (ls : List Line) (ih : Paid e (p + line_le
       omega (arith, i, c, ap (λ (g : Form). length (record_by p g)) y, length-append (record_by p f) (records_of ls), length-drop j s, line_within s)
 
   first : (f : Form) → form_of s ≡ f → cond (is_last f) [] (lines_from 0 (p + line_len s) (drop (line_len s) s)) ≡ ls
-      → on_turn (turn_by f) d e p Flawed Fine (λ n. judge n e (map turn_of ls)) ≡ Fine → length (record_by p f ++ records_of ls) + 26 ≤ 3 * length s
+      → on_turn (turn_by f) d e p flawed (Ok tt) (λ n. judge n e (map turn_of ls)) ≡ Ok tt → length (record_by p f ++ records_of ls) + 26 ≤ 3 * length s
   first (Nothing n) y t v = on (Nothing n) y refl d t v
   first (Item k w) y t v = on (Item k w) y refl d t v
   first (Group n) y t v = go (leb 8 d) v
     where
-      go : (b : Bool) → cond b (Flawed 23 p) (judge (d + 1) e (map turn_of ls)) ≡ Fine → length (record_by p (Group n) ++ records_of ls) + 26 ≤ 3 * length s
+      go : (b : Bool) → cond b (flawed 23 p) (judge (d + 1) e (map turn_of ls)) ≡ Ok tt → length (record_by p (Group n) ++ records_of ls) + 26 ≤ 3 * length s
       go true v = flawed_fine 23 p v
       go false v = on (Group n) y refl (d + 1) t v
   first Close y t v = go (eqb d 0) v
     where
-      go : (b : Bool) → cond b (Flawed 22 p) (judge (d - 1) e (map turn_of ls)) ≡ Fine → length (record_by p Close ++ records_of ls) + 26 ≤ 3 * length s
+      go : (b : Bool) → cond b (flawed 22 p) (judge (d - 1) e (map turn_of ls)) ≡ Ok tt → length (record_by p Close ++ records_of ls) + 26 ≤ 3 * length s
       go true v = flawed_fine 22 p v
       go false v = on Close y refl (d - 1) t v
   first End y t v = omega (arith, ap (λ (k : List Line). length (records_of k)) (sym t), none_cost, text_within s, ap text_len y)
@@ -112,26 +111,26 @@ sized (l ∷ ls) e p s d h f =
 -- ---- the theorems
 
 -- a reply that is accepted has at most 65,535 bytes
-accepted_short : (s : List ℕ) → verdict_of s ≡ Fine → length s ≤ 65535
+accepted_short : (s : List ℕ) → verdict_of s ≡ Ok tt → length s ≤ 65535
 unfolding verdict_of
 accepted_short s h = go (ltb 65535 (length s)) refl h
   where
-    go : (b : Bool) → ltb 65535 (length s) ≡ b → cond b (Flawed 21 0) (judge 0 (length s) (map turn_of (lines_of s))) ≡ Fine → length s ≤ 65535
+    go : (b : Bool) → ltb 65535 (length s) ≡ b → cond b (flawed 21 0) (judge 0 (length s) (map turn_of (lines_of s))) ≡ Ok tt → length s ≤ 65535
     go true z v = flawed_fine 21 0 v
     go false z v = ltb-false 65535 (length s) z
 
 -- and its records three times its bytes but 26: `endoutput` alone has nine bytes and a record of one
-pub records_within : (s : List ℕ) → verdict_of s ≡ Fine → length (records_of (lines_of s)) + 26 ≤ 3 * length s
+pub records_within : (s : List ℕ) → verdict_of s ≡ Ok tt → length (records_of (lines_of s)) + 26 ≤ 3 * length s
 unfolding lines_of
 records_within s h =
     let k = accepted_short s h in
     sized (lines_from 0 0 s) (length s) 0 s 0 refl (sym (verdict_is s k) ∙ h)
 
 -- so 196,579 bytes of room are enough for any reply: 19 is never the answer
-pub room_enough : (room : ℕ) (s : List ℕ) → 196579 ≤ room → read_answer room s ≡ judged (verdict_of s) (Wrote (length (records_of (lines_of s))))
+pub room_enough : (room : ℕ) (s : List ℕ) → 196579 ≤ room → read_answer room s ≡ judged (verdict_of s) (Ok (length (records_of (lines_of s))))
 unfolding read_answer fitted
 room_enough room s h = go (verdict_of s) refl
   where
-    go : (v : Verdict) → verdict_of s ≡ v → judged v (fitted room (records_of (lines_of s))) ≡ judged v (Wrote (length (records_of (lines_of s))))
-    go Fine z = rw (le-leb (length (records_of (lines_of s))) room (omega (arith, records_within s z, accepted_short s z, h)))
-    go (Flawed n p) z = refl
+    go : (v : Result Unit Refusal) → verdict_of s ≡ v → judged v (fitted room (records_of (lines_of s))) ≡ judged v (Ok (length (records_of (lines_of s))))
+    go (Ok u) z = rw (le-leb (length (records_of (lines_of s))) room (omega (arith, records_within s z, accepted_short s z, h)))
+    go (Err e) z = refl

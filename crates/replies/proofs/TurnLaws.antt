@@ -4,14 +4,14 @@ use mathlib.Core.Path.{◌≡◌, refl, sym, ap, ◌∙◌}
 use mathlib.Core.List.{List, [], ◌∷◌, map}
 use mathlib.Core.Bool.{Bool, true, false, cond}
 use lib.Dec.{eqb, leb}
-use Rattle.text.specs.declared.Verdict.{Verdict}
-use Rattle.text.specs.declared.Verdict.TheVariants.{Fine, Flawed}
 use Rattle.text.proofs.Tests.{no_case}
-use Rattle.replies.specs.Order.{Turn, passes, opens, closes, ends, wrong, unclosed, on_turn, judge}
+use Rattle.replies.specs.Order.{Turn, passes, opens, closes, ends, wrong, unclosed, on_turn, judge, flawed}
+use Rattle.std.proofs.Common.{Result, Ok, Err}
+use Rattle.text.specs.declared.Refusal.{Refusal}
 
-abbrev pub is_fine : Verdict → Bool
-is_fine Fine = true
-is_fine (Flawed n p) = false
+abbrev pub is_fine : Result Unit Refusal → Bool
+is_fine (Ok u) = true
+is_fine (Err e) = false
 
 -- turns without their places, and with places that do not matter
 abbrev pub turns_of : List (ℕ × Turn) → List Turn
@@ -21,46 +21,46 @@ abbrev pub unplaced : List Turn → List (ℕ × Turn)
 unplaced us = map (λ (u : Turn). (0, u)) us
 
 -- a refusal accepts nothing
-pub flawed_fine : {P : Type 0} (n p : ℕ) → Flawed n p ≡ Fine → P
+pub flawed_fine : {P : Type 0} (n p : ℕ) → flawed n p ≡ Ok tt → P
 flawed_fine n p e = no_case (sym (ap is_fine e))
 
 -- the number of a refusal, 0 for none
-abbrev pub number : Verdict → ℕ
-number Fine = 0
-number (Flawed n p) = n
+abbrev pub number : Result Unit Refusal → ℕ
+number (Ok u) = 0
+number (Err e) = e.number
 
 -- where a turn is accepted with what follows, it is with what follows as well, at any place
-pub turn_fine : (u : Turn) (d e p e' p' : ℕ) (f g : ℕ → Verdict) → ((n : ℕ) → f n ≡ Fine → g n ≡ Fine) → on_turn u d e p Flawed Fine f ≡ Fine → on_turn u d e' p' Flawed Fine g ≡ Fine
+pub turn_fine : (u : Turn) (d e p e' p' : ℕ) (f g : ℕ → Result Unit Refusal) → ((n : ℕ) → f n ≡ Ok tt → g n ≡ Ok tt) → on_turn u d e p flawed (Ok tt) f ≡ Ok tt → on_turn u d e' p' flawed (Ok tt) g ≡ Ok tt
 turn_fine passes d e p e' p' f g m h = m d h
 turn_fine opens d e p e' p' f g m h = go (leb 8 d) h
   where
-    go : (t : Bool) → cond t (Flawed 23 p) (f (d + 1)) ≡ Fine → cond t (Flawed 23 p') (g (d + 1)) ≡ Fine
+    go : (t : Bool) → cond t (flawed 23 p) (f (d + 1)) ≡ Ok tt → cond t (flawed 23 p') (g (d + 1)) ≡ Ok tt
     go true k = flawed_fine 23 p k
     go false k = m (d + 1) k
 turn_fine closes d e p e' p' f g m h = go (eqb d 0) h
   where
-    go : (t : Bool) → cond t (Flawed 22 p) (f (d - 1)) ≡ Fine → cond t (Flawed 22 p') (g (d - 1)) ≡ Fine
+    go : (t : Bool) → cond t (flawed 22 p) (f (d - 1)) ≡ Ok tt → cond t (flawed 22 p') (g (d - 1)) ≡ Ok tt
     go true k = flawed_fine 22 p k
     go false k = m (d - 1) k
 turn_fine ends d e p e' p' f g m h = go (eqb d 0) h
   where
-    go : (t : Bool) → cond t Fine (Flawed 24 p) ≡ Fine → cond t Fine (Flawed 24 p') ≡ Fine
+    go : (t : Bool) → cond t (Ok tt) (flawed 24 p) ≡ Ok tt → cond t (Ok tt) (flawed 24 p') ≡ Ok tt
     go true k = refl
     go false k = flawed_fine 24 p k
 turn_fine wrong d e p e' p' f g m h = flawed_fine 21 p h
 turn_fine unclosed d e p e' p' f g m h = flawed_fine 25 e h
 
 -- a turn that is accepted ends all, or goes on to what is accepted
-pub turn_then : {P : Type 0} (u : Turn) (d e p : ℕ) (f : ℕ → Verdict) → ((n : ℕ) → f n ≡ Fine → P) → (u ≡ ends → P) → on_turn u d e p Flawed Fine f ≡ Fine → P
+pub turn_then : {P : Type 0} (u : Turn) (d e p : ℕ) (f : ℕ → Result Unit Refusal) → ((n : ℕ) → f n ≡ Ok tt → P) → (u ≡ ends → P) → on_turn u d e p flawed (Ok tt) f ≡ Ok tt → P
 turn_then passes d e p f on done h = on d h
 turn_then {P} opens d e p f on done h = go (leb 8 d) h
   where
-    go : (t : Bool) → cond t (Flawed 23 p) (f (d + 1)) ≡ Fine → P
+    go : (t : Bool) → cond t (flawed 23 p) (f (d + 1)) ≡ Ok tt → P
     go true k = flawed_fine 23 p k
     go false k = on (d + 1) k
 turn_then {P} closes d e p f on done h = go (eqb d 0) h
   where
-    go : (t : Bool) → cond t (Flawed 22 p) (f (d - 1)) ≡ Fine → P
+    go : (t : Bool) → cond t (flawed 22 p) (f (d - 1)) ≡ Ok tt → P
     go true k = flawed_fine 22 p k
     go false k = on (d - 1) k
 turn_then ends d e p f on done h = done refl
@@ -68,31 +68,31 @@ turn_then wrong d e p f on done h = flawed_fine 21 p h
 turn_then unclosed d e p f on done h = flawed_fine 25 e h
 
 -- what follows may be put for what is the same
-pub turn_same : (u : Turn) (d e p : ℕ) (f g : ℕ → Verdict) → ((n : ℕ) → f n ≡ g n) → on_turn u d e p Flawed Fine f ≡ on_turn u d e p Flawed Fine g
+pub turn_same : (u : Turn) (d e p : ℕ) (f g : ℕ → Result Unit Refusal) → ((n : ℕ) → f n ≡ g n) → on_turn u d e p flawed (Ok tt) f ≡ on_turn u d e p flawed (Ok tt) g
 turn_same passes d e p f g m = m d
-turn_same opens d e p f g m = ap (cond (leb 8 d) (Flawed 23 p)) (m (d + 1))
-turn_same closes d e p f g m = ap (cond (eqb d 0) (Flawed 22 p)) (m (d - 1))
+turn_same opens d e p f g m = ap (cond (leb 8 d) (flawed 23 p)) (m (d + 1))
+turn_same closes d e p f g m = ap (cond (eqb d 0) (flawed 22 p)) (m (d - 1))
 turn_same ends d e p f g m = refl
 turn_same wrong d e p f g m = refl
 turn_same unclosed d e p f g m = refl
 
 -- what is looked at of a verdict: anything but a refusal's place
-module _ {B : Type 0} (look : Verdict → B) (same : (n p q : ℕ) → look (Flawed n p) ≡ look (Flawed n q)) where
-  pub turn_look : (u : Turn) (d e p e' p' : ℕ) (f g : ℕ → Verdict) → ((n : ℕ) → look (f n) ≡ look (g n)) → look (on_turn u d e p Flawed Fine f) ≡ look (on_turn u d e' p' Flawed Fine g)
+module _ {B : Type 0} (look : Result Unit Refusal → B) (same : (n p q : ℕ) → look (flawed n p) ≡ look (flawed n q)) where
+  pub turn_look : (u : Turn) (d e p e' p' : ℕ) (f g : ℕ → Result Unit Refusal) → ((n : ℕ) → look (f n) ≡ look (g n)) → look (on_turn u d e p flawed (Ok tt) f) ≡ look (on_turn u d e' p' flawed (Ok tt) g)
   turn_look passes d e p e' p' f g m = m d
   turn_look opens d e p e' p' f g m = go (leb 8 d)
     where
-      go : (t : Bool) → look (cond t (Flawed 23 p) (f (d + 1))) ≡ look (cond t (Flawed 23 p') (g (d + 1)))
+      go : (t : Bool) → look (cond t (flawed 23 p) (f (d + 1))) ≡ look (cond t (flawed 23 p') (g (d + 1)))
       go true = same 23 p p'
       go false = m (d + 1)
   turn_look closes d e p e' p' f g m = go (eqb d 0)
     where
-      go : (t : Bool) → look (cond t (Flawed 22 p) (f (d - 1))) ≡ look (cond t (Flawed 22 p') (g (d - 1)))
+      go : (t : Bool) → look (cond t (flawed 22 p) (f (d - 1))) ≡ look (cond t (flawed 22 p') (g (d - 1)))
       go true = same 22 p p'
       go false = m (d - 1)
   turn_look ends d e p e' p' f g m = go (eqb d 0)
     where
-      go : (t : Bool) → look (cond t Fine (Flawed 24 p)) ≡ look (cond t Fine (Flawed 24 p'))
+      go : (t : Bool) → look (cond t (Ok tt) (flawed 24 p)) ≡ look (cond t (Ok tt) (flawed 24 p'))
       go true = refl
       go false = same 24 p p'
   turn_look wrong d e p e' p' f g m = same 21 p p'
@@ -108,5 +108,5 @@ module _ {B : Type 0} (look : Verdict → B) (same : (n p q : ℕ) → look (Fla
   judge_same d e e' ls ls' h = judge_look d e ls ∙ ap (λ (us : List Turn). look (judge d 0 (unplaced us))) h ∙ sym (judge_look d e' ls')
 
 -- its number is such
-pub number_place : (n p q : ℕ) → number (Flawed n p) ≡ number (Flawed n q)
+pub number_place : (n p q : ℕ) → number (flawed n p) ≡ number (flawed n q)
 number_place n p q = refl

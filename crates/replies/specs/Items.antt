@@ -1,10 +1,6 @@
 -- What a reply says: its items, each a keyword and the bytes that its value stands for, its groups, and the ends of both, in order.
 use Rattle.std.specs.Prelude.{ℕ, ◌+◌, ◌-◌, List, [], ◌∷◌, ◌++◌, Bool, true, false, cond, length, take, drop, eqb}
 use Rattle.std.proofs.Math.Option.{Option, none, some}
-use Rattle.text.specs.declared.Answer.{Answer}
-use Rattle.text.specs.declared.Answer.TheVariants.{Refused}
-use Rattle.text.specs.declared.Verdict.{Verdict}
-use Rattle.text.specs.declared.Verdict.TheVariants.{Fine, Flawed}
 use Rattle.text.specs.Room.{fitted, filled}
 use Rattle.terms.specs.declared.Mode.TheVariants.{In}
 use Rattle.terms.specs.Signs.{meant}
@@ -12,6 +8,9 @@ use Rattle.replies.specs.declared.Form.{Form}
 use Rattle.replies.specs.declared.Form.TheVariants.{Nothing, Item, Group, Close, End, Wrong, Open}
 use Rattle.replies.specs.Lines.{begins, is_quote, quote_len, Line, lines_of}
 use Rattle.replies.specs.Reading.{verdict_of}
+use Rattle.std.specs.Prelude.{Result, Ok, Err}
+use Rattle.text.specs.Room.{refusal_at}
+use Rattle.text.specs.declared.Refusal.{Refusal}
 
 -- ---- what a raw value stands for
 
@@ -28,8 +27,8 @@ closes_at n (some k) = eqb k n
 unfoldable pub is_value : List ℕ → Bool
 is_value raw = cond (begins is_quote raw) (closes_at (length raw - 1) (quote_len In (drop 1 raw))) true
 
-unfoldable pub value_answer : ℕ → List ℕ → Answer
-value_answer room raw = cond (is_value raw) (fitted room (plain_of raw)) (Refused 21 0)
+unfoldable pub value_answer : ℕ → List ℕ → Result ℕ Refusal
+value_answer room raw = cond (is_value raw) (fitted room (plain_of raw)) (Err (refusal_at 21 0))
 
 unfoldable pub value_room : List ℕ → List ℕ → List ℕ
 value_room room raw = cond (is_value raw) (filled room (plain_of raw)) room
@@ -60,9 +59,9 @@ told_in [] = []
 told_in (l ∷ ls) = told_of l ++ told_in ls
 
 -- what a reply says; a refused one says nothing
-abbrev pub unless_flawed : {A : Type 0} → Verdict → A → Option A
-unless_flawed Fine a = some a
-unless_flawed (Flawed n p) a = none
+abbrev pub unless_flawed : {A : Type 0} → Result Unit Refusal → A → Option A
+unless_flawed (Ok u) a = some a
+unless_flawed (Err e) a = none
 
 unfoldable pub says_of : List ℕ → Option (List Told)
 says_of s = unless_flawed (verdict_of s) (told_in (lines_of s))

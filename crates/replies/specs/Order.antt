@@ -1,9 +1,8 @@
 -- The order of groups and of the end, one for lines that are read and for records that are written: refusals 21 to 25, the first in reading order, 25 last.
 use Rattle.std.specs.Prelude.{ℕ, ◌+◌, ◌-◌, List, [], ◌∷◌, cond, eqb, leb}
-use Rattle.text.specs.declared.Answer.{Answer}
-use Rattle.text.specs.declared.Answer.TheVariants.{Refused}
-use Rattle.text.specs.declared.Verdict.{Verdict}
-use Rattle.text.specs.declared.Verdict.TheVariants.{Fine, Flawed}
+use Rattle.std.specs.Prelude.{Result, Ok, Err}
+use Rattle.text.specs.Room.{refusal_at}
+use Rattle.text.specs.declared.Refusal.{Refusal}
 
 -- what a line or a record does: nothing to groups, opens one, closes one, ends the reply; or it is of no such form; or its quote is never closed
 pub data Turn : Type 0 where
@@ -19,16 +18,20 @@ on_turn ends d e p stop done on = cond (eqb d 0) done (stop 24 p)
 on_turn wrong d e p stop done on = stop 21 p
 on_turn unclosed d e p stop done on = stop 25 e
 
+-- a verdict that refuses, by its number and its place
+abbrev pub flawed : ℕ → ℕ → Result Unit Refusal
+flawed n p = Err (refusal_at n p)
+
 -- 25 too where all ends without `endoutput`
-unfoldable pub judge : ℕ → ℕ → List (ℕ × Turn) → Verdict
-judge d e [] = Flawed 25 e
-judge d e (l ∷ ls) = on_turn l.1 d e l.0 Flawed Fine (λ n. judge n e ls)
+unfoldable pub judge : ℕ → ℕ → List (ℕ × Turn) → Result Unit Refusal
+judge d e [] = flawed 25 e
+judge d e (l ∷ ls) = on_turn l.1 d e l.0 flawed (Ok tt) (λ n. judge n e ls)
 
 -- what is answered by a verdict: its refusal, or else this; and what the room then holds
-abbrev pub judged : Verdict → Answer → Answer
-judged Fine a = a
-judged (Flawed n p) a = Refused n p
+abbrev pub judged : Result Unit Refusal → Result ℕ Refusal → Result ℕ Refusal
+judged (Ok u) a = a
+judged (Err e) a = Err e
 
-abbrev pub kept : Verdict → List ℕ → List ℕ → List ℕ
-kept Fine room full = full
-kept (Flawed n p) room full = room
+abbrev pub kept : Result Unit Refusal → List ℕ → List ℕ → List ℕ
+kept (Ok u) room full = full
+kept (Err e) room full = room

@@ -1,13 +1,13 @@
 -- Reading a reply: its verdict, and its records, whose fields of 2 bytes, high first, point into the text.
 use Rattle.std.specs.Prelude.{ℕ, ◌+◌, List, [], ◌∷◌, ◌++◌, map, cond, length, ltb}
-use Rattle.text.specs.declared.Answer.{Answer}
-use Rattle.text.specs.declared.Verdict.{Verdict}
-use Rattle.text.specs.declared.Verdict.TheVariants.{Flawed}
 use Rattle.text.specs.Room.{high_low, fitted, filled}
 use Rattle.replies.specs.declared.Form.{Form}
 use Rattle.replies.specs.declared.Form.TheVariants.{Nothing, Item, Group, Close, End, Wrong, Open}
 use Rattle.replies.specs.Lines.{Line, lines_of}
 use Rattle.replies.specs.Order.{Turn, passes, opens, closes, ends, wrong, unclosed, judge, judged, kept}
+use Rattle.std.specs.Prelude.{Result, Err}
+use Rattle.text.specs.Room.{refusal_at}
+use Rattle.text.specs.declared.Refusal.{Refusal}
 
 abbrev pub turn_by : Form → Turn
 turn_by (Nothing n) = passes
@@ -39,10 +39,10 @@ records_of [] = []
 records_of (l ∷ ls) = record_of l ++ records_of ls
 
 -- A text of over 65,535 bytes is 21 at 0; then the first refusal in reading order; 19 is last.
-unfoldable pub verdict_of : List ℕ → Verdict
-verdict_of s = cond (ltb 65535 (length s)) (Flawed 21 0) (judge 0 (length s) (map turn_of (lines_of s)))
+unfoldable pub verdict_of : List ℕ → Result Unit Refusal
+verdict_of s = cond (ltb 65535 (length s)) (Err (refusal_at 21 0)) (judge 0 (length s) (map turn_of (lines_of s)))
 
-unfoldable pub read_answer : ℕ → List ℕ → Answer
+unfoldable pub read_answer : ℕ → List ℕ → Result ℕ Refusal
 read_answer room s = judged (verdict_of s) (fitted room (records_of (lines_of s)))
 
 unfoldable pub read_room : List ℕ → List ℕ → List ℕ

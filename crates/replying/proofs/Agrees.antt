@@ -9,11 +9,10 @@ use native.Mathlib.Nat.{add-zero}
 use borrow.Author.Tests.{le-ltb}
 use lib.ListN.{length, length-append}
 use Rattle.text.specs.Lists.{all_of}
-use Rattle.text.specs.declared.Verdict.TheVariants.{Fine, Flawed}
 use Rattle.text.proofs.Tests.{and_l, and_r, and_in, no_case}
 use Rattle.words.specs.Words.{reply_record_len}
 use Rattle.replies.specs.Lines.{lines_of}
-use Rattle.replies.specs.Order.{Turn, judge, on_turn}
+use Rattle.replies.specs.Order.{Turn, judge, on_turn, flawed}
 use Rattle.replies.specs.Reading.{turn_of, verdict_of}
 use Rattle.replies.specs.Items.{Told, item, group, endgroup, endoutput, told_in, says_of}
 use Rattle.replies.proofs.TurnLaws.{flawed_fine, turn_fine, number, number_place, turns_of, judge_same}
@@ -22,11 +21,12 @@ use Rattle.replying.specs.Writing.{line_of, writing_of, turn_told, turn_or_wrong
 use Rattle.replying.proofs.ToldLines.{right, to_end}
 use Rattle.replying.proofs.ReadLines.{turns_from, lines_right}
 use Rattle.replying.proofs.ReadBack.{writing_judge, writing_verdict, told_reads, said, sized, asked_end, written_reads}
+use Rattle.std.proofs.Common.{Ok}
 
 -- ---- of items
 
 -- what is accepted is accepted at any places
-pub fine_anywhere : (ts : List Told) (d e p e' p' : ℕ) → judge d e (turns_from p ts) ≡ Fine → judge d e' (turns_from p' ts) ≡ Fine
+pub fine_anywhere : (ts : List Told) (d e p e' p' : ℕ) → judge d e (turns_from p ts) ≡ Ok tt → judge d e' (turns_from p' ts) ≡ Ok tt
 unfolding judge turns_from
 fine_anywhere [] d e p e' p' h = flawed_fine 25 e h
 fine_anywhere (t ∷ ts) d e p e' p' h =
@@ -44,19 +44,19 @@ end_right (endgroup ∷ ts) r = end_right ts r
 end_right (endoutput ∷ ts) r = refl
 
 -- what reads back was accepted
-reads_right : (s : List ℕ) (ts : List Told) → says_of s ≡ some ts → (verdict_of s ≡ Fine) × (all_of right ts ≡ true) × (length s ≤ 65535)
+reads_right : (s : List ℕ) (ts : List Told) → says_of s ≡ some ts → (verdict_of s ≡ Ok tt) × (all_of right ts ≡ true) × (length s ≤ 65535)
 unfolding says_of verdict_of lines_of
 reads_right s ts h =
     let a = said (verdict_of s) (told_in (lines_of s)) ts h in
     let b = sized (length s) (judge 0 (length s) (map turn_of (lines_of s))) a.fine in
     (a.fine, subst (λ (us : List Told). all_of right us ≡ true) a.same (lines_right 0 0 s), b.0)
 
-pub reads_fine : (ts : List Told) → says_of (writing_of ts) ≡ some (to_end ts) → judge 0 (length (writing_of ts)) (turns_from 0 ts) ≡ Fine
+pub reads_fine : (ts : List Told) → says_of (writing_of ts) ≡ some (to_end ts) → judge 0 (length (writing_of ts)) (turns_from 0 ts) ≡ Ok tt
 reads_fine ts h = let r = reads_right (writing_of ts) (to_end ts) h in sym (writing_verdict ts r.1 r.2) ∙ r.0
 
 -- items in order are exactly those that read back, up to and with their first end
 pub agrees : (ts : List Told) (e : ℕ) → length (writing_of ts) ≤ 65535
-    → (judge 0 e (turns_from 0 ts) ≡ Fine → says_of (writing_of ts) ≡ some (to_end ts)) × (says_of (writing_of ts) ≡ some (to_end ts) → judge 0 e (turns_from 0 ts) ≡ Fine)
+    → (judge 0 e (turns_from 0 ts) ≡ Ok tt → says_of (writing_of ts) ≡ some (to_end ts)) × (says_of (writing_of ts) ≡ some (to_end ts) → judge 0 e (turns_from 0 ts) ≡ Ok tt)
 agrees ts e l =
     let n = length (writing_of ts) in
     ((λ h. told_reads ts l (fine_anywhere ts 0 e 0 n 0 h)), (λ h. fine_anywhere ts 0 n 0 e 0 (reads_fine ts h)))
@@ -78,7 +78,7 @@ places_are p (t ∷ xs) ys =
 -- ---- of records
 
 -- what the records tell is accepted only where they are
-asked_back : (k p : ℕ) (t r : List ℕ) (d e e' q : ℕ) → judge d e (turns_from q (told_asked (asked_from k p t r))) ≡ Fine → judge d e' (map turn_asked (asked_from k p t r)) ≡ Fine
+asked_back : (k p : ℕ) (t r : List ℕ) (d e e' q : ℕ) → judge d e (turns_from q (told_asked (asked_from k p t r))) ≡ Ok tt → judge d e' (map turn_asked (asked_from k p t r)) ≡ Ok tt
 unfolding asked_from told_asked turns_from judge
 asked_back k p t [] d e e' q h = flawed_fine 25 e h
 asked_back (suc k) p t (b ∷ r) d e e' q h = asked_back k (suc p) t r d e e' q h
@@ -87,14 +87,14 @@ asked_back zero p t (b ∷ r) d e e' q h = go (record_told t (b ∷ r)) (λ n j.
     rest : List Asked
     rest = asked_from (reply_record_len b - 1) (suc p) t r
 
-    left : (x : Bool) → ((n j : ℕ) → judge n e (turns_from j (told_asked rest)) ≡ Fine → judge n e' (map turn_asked rest) ≡ Fine)
-        → (n j : ℕ) → judge n e (turns_from j (told_asked (cond x [] rest))) ≡ Fine → judge n e' (map turn_asked (cond x [] rest)) ≡ Fine
+    left : (x : Bool) → ((n j : ℕ) → judge n e (turns_from j (told_asked rest)) ≡ Ok tt → judge n e' (map turn_asked rest) ≡ Ok tt)
+        → (n j : ℕ) → judge n e (turns_from j (told_asked (cond x [] rest))) ≡ Ok tt → judge n e' (map turn_asked (cond x [] rest)) ≡ Ok tt
     left true ih n j z = flawed_fine 25 e z
     left false ih n j z = ih n j z
 
-    go : (o : Option Told) → ((n j : ℕ) → judge n e (turns_from j (told_asked rest)) ≡ Fine → judge n e' (map turn_asked rest) ≡ Fine)
-        → judge d e (turns_from q (with_told o (told_asked (cond (is_final o) [] rest)))) ≡ Fine
-        → on_turn (turn_or_wrong o) d e' p Flawed Fine (λ n. judge n e' (map turn_asked (cond (is_final o) [] rest))) ≡ Fine
+    go : (o : Option Told) → ((n j : ℕ) → judge n e (turns_from j (told_asked rest)) ≡ Ok tt → judge n e' (map turn_asked rest) ≡ Ok tt)
+        → judge d e (turns_from q (with_told o (told_asked (cond (is_final o) [] rest)))) ≡ Ok tt
+        → on_turn (turn_or_wrong o) d e' p flawed (Ok tt) (λ n. judge n e' (map turn_asked (cond (is_final o) [] rest))) ≡ Ok tt
     go none ih z = flawed_fine 25 e z
     go (some u) ih z =
         let j = q + length (line_of u) in
@@ -103,14 +103,14 @@ asked_back zero p t (b ∷ r) d e e' q h = go (record_told t (b ∷ r)) (λ n j.
 
 -- the writer accepts exactly the records whose writing reads back as what they tell
 pub accepts_exactly : (r t : List ℕ) → length t ≤ 65535
-    → (write_verdict r t ≡ Fine → says_of (written_by r t) ≡ some (told_asked (asked_of r t))) × (says_of (written_by r t) ≡ some (told_asked (asked_of r t)) → write_verdict r t ≡ Fine)
+    → (write_verdict r t ≡ Ok tt → says_of (written_by r t) ≡ some (told_asked (asked_of r t))) × (says_of (written_by r t) ≡ some (told_asked (asked_of r t)) → write_verdict r t ≡ Ok tt)
 unfolding write_verdict asked_verdict size_verdict written_by asked_of asks_of
 accepts_exactly r t l = ((λ h. written_reads r t us (rw h refl)), back)
   where
     us : List Told
     us = told_asked (asked_from 0 0 t r)
 
-    back : says_of (writing_of us) ≡ some us → write_verdict r t ≡ Fine
+    back : says_of (writing_of us) ≡ some us → write_verdict r t ≡ Ok tt
     back h =
         let e = asked_end 0 0 t r in
         let f = reads_fine us (h ∙ ap some (sym e)) in

@@ -1,4 +1,5 @@
 pub mod Agrees
+pub mod Chains
 pub mod LineLaws
 pub mod OwnRecords
 pub mod Quoted

@@ -8,6 +8,8 @@ use native.Mathlib.Omega.{arith}
 use lib.ListN.{length, get_or, drop, set, length-append, drop_of_length-le}
 use lib.Seq.{sets, set-set, set_comm}
 use lib.Dec.{eqb}
+use Rattle.std.specs.List.{count_by}
+use Rattle.std.proofs.lemmas.List.Sums.{sum_by-cons}
 use borrow.Author.Tests.{ne_eqb}
 use Rattle.text.specs.Bytes.{bytes, one_of}
 use Rattle.text.specs.Lists.{any_of}
@@ -20,15 +22,6 @@ use Rattle.replies.specs.Items.{item, group, endgroup, endoutput}
 use Rattle.replying.specs.Writing.{value_line, line_of}
 
 -- ---- which values are quoted
-
--- what a value begins with, where it is empty and where it is not
-pub begins_none : (v : List ℕ) → length v ≡ 0 → false ≡ begins is_quote v
-begins_none [] h = refl
-begins_none (b ∷ v) h = absurd (omega arith)
-
-pub begins_first : (v : List ℕ) → (length v ≡ 0 → ⊥) → eqb (get_or v 0 0) 34 ≡ begins is_quote v
-begins_first [] h = absurd (h refl)
-begins_first (b ∷ v) h = refl
 
 -- how a value is written
 module _ (v : List ℕ) where
@@ -65,6 +58,28 @@ closing_on s i h = rw (drop_step s i h)
 pub closing_past : (s : List ℕ) (i : ℕ) → length s ≤ i → raws (closing (drop i s)) ≡ 34 ∷ []
 unfolding closing raws
 closing_past s i h = rw (drop_of_length-le s h)
+
+-- a byte that has a GRAVE before it in quotes
+abbrev pub is_graved : ℕ → Bool
+is_graved b = eqb b 96 || eqb b 34
+
+raw_length : (b : ℕ) → length (raw (in_quotes b)) ≡ 1 + cond (is_graved b) 1 0
+unfolding in_quotes two one_of bytes
+raw_length b = go (eqb b 96) (eqb b 34)
+  where
+    go : (x y : Bool) → length (raw (cond (x || (y || false)) (quoted_escaped b) (quoted b))) ≡ 1 + cond (x || y) 1 0
+    go true true = refl
+    go true false = refl
+    go false true = refl
+    go false false = refl
+
+pub closing_length : (s : List ℕ) → length s + count_by is_graved s + 1 ≡ length (raws (closing s))
+unfolding closing raws
+closing_length [] = refl
+closing_length (b ∷ s) =
+    let h = closing_length s in
+    let n = sum_by-cons (λ x. cond (is_graved x) 1 0) b s in
+    omega (arith, length-append (raw (in_quotes b)) (raws (closing s)), raw_length b)
 
 -- ---- stores
 

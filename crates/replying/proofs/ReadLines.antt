@@ -8,18 +8,18 @@ use lib.ListN.{length, take, drop, length-append}
 use lib.Seq.{take_at, take-append_seam}
 use Rattle.text.specs.Bytes.{bytes}
 use Rattle.text.specs.Lists.{all_of}
-use Rattle.text.specs.declared.Verdict.TheVariants.{Fine, Flawed}
 use Rattle.text.proofs.AllAny.{all_append}
 use Rattle.replies.specs.declared.Form.{Form}
 use Rattle.replies.specs.declared.Form.TheVariants.{Nothing, Item, Group, Close, End, Wrong, Open}
 use Rattle.replies.specs.Lines.{begin_word, form_of, text_len, line_len, Line, is_last, lines_from}
-use Rattle.replies.specs.Order.{Turn, judge, on_turn}
+use Rattle.replies.specs.Order.{Turn, judge, on_turn, flawed}
 use Rattle.replies.specs.Reading.{turn_by, turn_of}
 use Rattle.replies.specs.Items.{Told, item, group, endgroup, endoutput, plain_of, told_by, told_in}
 use Rattle.replies.proofs.Forms.{Row, nothing, item as is-item, group as is-group, close, end, wrong as is-wrong, open', row_of}
 use Rattle.replies.proofs.TurnLaws.{flawed_fine, turn_fine}
 use Rattle.replying.specs.Writing.{line_of, turn_told}
 use Rattle.replying.proofs.ToldLines.{right, to_end}
+use Rattle.std.proofs.Common.{Ok}
 
 -- ---- what a line tells, by its form
 
@@ -87,15 +87,15 @@ unfoldable pub turns_from : ℕ → List Told → List (ℕ × Turn)
 turns_from p [] = []
 turns_from p (t ∷ ts) = (p, turn_told t) ∷ turns_from (p + length (line_of t)) ts
 
-module _ (d e e' p q : ℕ) (ls : List Line) (ih : (n q : ℕ) → judge n e (map turn_of ls) ≡ Fine → judge n e' (turns_from q (told_in ls)) ≡ Fine) where
-  turn_told_lem : (t : Told) → on_turn (turn_told t) d e p Flawed Fine (λ n. judge n e (map turn_of ls)) ≡ Fine → judge d e' (turns_from q (t ∷ told_in ls)) ≡ Fine
+module _ (d e e' p q : ℕ) (ls : List Line) (ih : (n q : ℕ) → judge n e (map turn_of ls) ≡ Ok tt → judge n e' (turns_from q (told_in ls)) ≡ Ok tt) where
+  turn_told_lem : (t : Told) → on_turn (turn_told t) d e p flawed (Ok tt) (λ n. judge n e (map turn_of ls)) ≡ Ok tt → judge d e' (turns_from q (t ∷ told_in ls)) ≡ Ok tt
   unfolding judge turns_from
   turn_told_lem t h =
       turn_fine (turn_told t) d e p e' q (λ n. judge n e (map turn_of ls)) (λ n. judge n e' (turns_from (q + length (line_of t)) (told_in ls)))
       (λ n. ih n (q + length (line_of t))) h
 
-  row_fine : (s : List ℕ) (f : Form) → Row s f → on_turn (turn_by f) d e p Flawed Fine (λ n. judge n e (map turn_of ls)) ≡ Fine
-      → judge d e' (turns_from q (told_by (take (text_len f) s) f ++ told_in ls)) ≡ Fine
+  row_fine : (s : List ℕ) (f : Form) → Row s f → on_turn (turn_by f) d e p flawed (Ok tt) (λ n. judge n e (map turn_of ls)) ≡ Ok tt
+      → judge d e' (turns_from q (told_by (take (text_len f) s) f ++ told_in ls)) ≡ Ok tt
   row_fine _ _ (nothing t r c a z) h = ih d q h
   row_fine _ _ (is-item k v r i w z) h =
       let y = plain_of (drop (length k + 1) (take (length k + 1 + length v) (k ++ (61 ∷ (v ++ r))))) in
@@ -107,7 +107,7 @@ module _ (d e e' p q : ℕ) (ls : List Line) (ih : (n q : ℕ) → judge n e (ma
   row_fine _ _ (open' s) h = flawed_fine 25 e h
 
 -- what is accepted as read is accepted as told
-pub lines_fine : (k p : ℕ) (s : List ℕ) (d e e' q : ℕ) → judge d e (map turn_of (lines_from k p s)) ≡ Fine → judge d e' (turns_from q (told_in (lines_from k p s))) ≡ Fine
+pub lines_fine : (k p : ℕ) (s : List ℕ) (d e e' q : ℕ) → judge d e (map turn_of (lines_from k p s)) ≡ Ok tt → judge d e' (turns_from q (told_in (lines_from k p s))) ≡ Ok tt
 unfolding lines_from told_in judge
 lines_fine k p [] d e e' q h = flawed_fine 25 e h
 lines_fine (suc k) p (b ∷ s) d e e' q h = lines_fine k (suc p) s d e e' q h
@@ -117,7 +117,7 @@ lines_fine zero p (b ∷ s) d e e' q h =
     rest : List Line
     rest = lines_from (line_len (b ∷ s) - 1) (suc p) s
 
-    go : (t : Bool) → ((n q : ℕ) → judge n e (map turn_of rest) ≡ Fine → judge n e' (turns_from q (told_in rest)) ≡ Fine)
-        → (n q : ℕ) → judge n e (map turn_of (cond t [] rest)) ≡ Fine → judge n e' (turns_from q (told_in (cond t [] rest))) ≡ Fine
+    go : (t : Bool) → ((n q : ℕ) → judge n e (map turn_of rest) ≡ Ok tt → judge n e' (turns_from q (told_in rest)) ≡ Ok tt)
+        → (n q : ℕ) → judge n e (map turn_of (cond t [] rest)) ≡ Ok tt → judge n e' (turns_from q (told_in (cond t [] rest))) ≡ Ok tt
     go true ih n q z = flawed_fine 25 e z
     go false ih n q z = ih n q z

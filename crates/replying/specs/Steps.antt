@@ -1,51 +1,57 @@
--- The writing as the code goes: what a record tells by where its parts stand, what it leads to, and the records in turn.
-use Rattle.std.specs.Prelude.{ℕ, ◌+◌, ◌≤◌, List, [], map, Bool, true, false, cond, length, take, drop, ltb}
+-- The writing as the code goes: what a record tells by its parts, what it leads to, and the records in turn.
+use Rattle.std.specs.Prelude.{ℕ, ◌+◌, ◌≤◌, List, [], map, cond, length, ltb, Ok, Err, Result}
+use Rattle.std.specs.Borrow.{Bor}
+use Rattle.std.specs.Prelude.{Option as StdOption, Some, None}
 use Rattle.std.proofs.Math.Option.{Option, none, some}
-use Rattle.text.specs.declared.Answer.{Answer}
-use Rattle.text.specs.declared.Answer.TheVariants as answers
 use Rattle.replies.specs.Order.{Turn, on_turn, judge, judged}
 use Rattle.replies.specs.Items.{Told, item, group, endgroup, endoutput}
 use Rattle.replying.specs.declared.Cue.{Cue}
-use Rattle.replying.specs.declared.Cue.TheVariants.{Item, Group, Close, End, Bad}
-use Rattle.replying.specs.declared.Led.{Led}
-use Rattle.replying.specs.declared.Led.TheVariants.{On, Done, Refused}
+use Rattle.replying.specs.declared.Cue.TheVariants.{Item, Group, Close, End}
 use Rattle.replying.specs.Records.{Asked}
 use Rattle.replying.specs.Writing.{line_of, turn_asked, told_asked, writing_of}
+use Rattle.text.specs.Room.{refusal_at}
+use Rattle.text.specs.declared.Refusal.{Refusal}
 
 -- ---- a record
 
+-- a part of the text that the code took
+abbrev pub part_told : StdOption (Bor (List ℕ)) → Option (List ℕ)
+part_told None = none
+part_told (Some p) = some p.now
+
 -- what is told by parts of the text
-abbrev pub cue_told : List ℕ → Cue → Option Told
-cue_told t (Item k m v n) = some (item (take m (drop k t)) (take n (drop v t)))
-cue_told t (Group k m) = some (group (take m (drop k t)))
-cue_told t Close = some endgroup
-cue_told t End = some endoutput
-cue_told t Bad = none
+abbrev pub told_by_cue : Cue → Told
+told_by_cue (Item k v) = item k.now v.now
+told_by_cue (Group n) = group n.now
+told_by_cue Close = endgroup
+told_by_cue End = endoutput
 
--- the parts lie within the text
-abbrev pub Held : List ℕ → Cue → Type 0
-Held t (Item k m v n) = (k + m ≤ length t) × (v + n ≤ length t)
-Held t (Group k m) = k + m ≤ length t
-Held t Close = Unit {0}
-Held t End = Unit {0}
-Held t Bad = Unit {0}
+abbrev pub cue_told : StdOption Cue → Option Told
+cue_told None = none
+cue_told (Some c) = some (told_by_cue c)
 
--- nothing is looked at after it
-abbrev pub is_final_cue : Cue → Bool
-is_final_cue (Item k m v n) = false
-is_final_cue (Group k m) = false
-is_final_cue Close = false
-is_final_cue End = true
-is_final_cue Bad = true
+-- no part is longer than a text may be
+abbrev pub HeldCue : Cue → Type 0
+HeldCue (Item k v) = (length k.now ≤ 65535) × (length v.now ≤ 65535)
+HeldCue (Group n) = length n.now ≤ 65535
+HeldCue Close = Unit {0}
+HeldCue End = Unit {0}
+
+abbrev pub Held : StdOption Cue → Type 0
+Held None = Unit {0}
+Held (Some c) = HeldCue c
 
 -- the line of what is told; a bad record has none
 abbrev pub line_told : Option Told → List ℕ
 line_told none = []
 line_told (some t) = line_of t
 
--- what a turn leads to at a depth
+-- what a turn leads to at a depth: the next record at a depth, none after the reply's end, or a refusal by its number
+abbrev pub Led : Type 0
+Led = Result (StdOption ℕ) ℕ
+
 abbrev pub led_by : Turn → ℕ → Led
-led_by u d = on_turn u d 0 0 (λ n p. Refused n) Done (λ m. On m)
+led_by u d = on_turn u d 0 0 (λ n p. Err n) (Ok None) (λ m. Ok (Some m))
 
 -- ---- the records in turn
 
@@ -53,9 +59,9 @@ led_by u d = on_turn u d 0 0 (λ n p. Refused n) Done (λ m. On m)
 unfoldable pub capped : ℕ → ℕ → ℕ
 capped n m = cond (ltb 65535 n) n (n + m)
 
-unfoldable pub sized : ℕ → Answer
-sized n = cond (ltb 65535 n) (answers.Refused 21 0) (answers.Wrote n)
+unfoldable pub sized : ℕ → Result ℕ Refusal
+sized n = cond (ltb 65535 n) (Err (refusal_at 21 0)) (Ok n)
 
 -- the records that are left, at a depth, where n bytes are to be written before them: the first trouble, or how many bytes there are in the end
-unfoldable pub weighed : ℕ → ℕ → ℕ → List Asked → Answer
+unfoldable pub weighed : ℕ → ℕ → ℕ → List Asked → Result ℕ Refusal
 weighed d e n as' = judged (judge d e (map turn_asked as')) (sized (n + length (writing_of (told_asked as'))))

@@ -1,9 +1,6 @@
 -- Writing a reply: each item, group and end as its line, ended by LF.
 use Rattle.std.specs.Prelude.{ℕ, List, [], ◌∷◌, ◌++◌, map, cond, ◌||◌, length, ltb}
 use Rattle.std.proofs.Math.Option.{Option, none, some}
-use Rattle.text.specs.declared.Answer.{Answer}
-use Rattle.text.specs.declared.Verdict.{Verdict}
-use Rattle.text.specs.declared.Verdict.TheVariants.{Fine, Flawed}
 use Rattle.text.specs.Lists.{any_of}
 use Rattle.text.specs.Room.{fitted, filled}
 use Rattle.terms.specs.Signs.{raws}
@@ -13,6 +10,9 @@ use Rattle.replies.specs.Lines.{begins, is_end, is_quote, begin_word, close_word
 use Rattle.replies.specs.Order.{Turn, passes, opens, closes, ends, wrong, judge, judged, kept}
 use Rattle.replies.specs.Items.{Told, item, group, endgroup, endoutput, unless_flawed}
 use Rattle.replying.specs.Records.{Asked, asked_of}
+use Rattle.std.specs.Prelude.{Result, Ok, Err}
+use Rattle.text.specs.Room.{refusal_at}
+use Rattle.text.specs.declared.Refusal.{Refusal}
 
 -- ---- lines
 
@@ -56,23 +56,23 @@ told_asked [] = []
 told_asked (a ∷ as') = with_told a.told (told_asked as')
 
 -- A lent text of over 65,535 bytes is 21 at 0; then record by record, the first trouble; then 21 at 0 for over 65,535 bytes written; 19 is last.
-unfoldable pub asked_verdict : List ℕ → List ℕ → Verdict
-asked_verdict r t = cond (ltb 65535 (length t)) (Flawed 21 0) (judge 0 (length r) (map turn_asked (asked_of r t)))
+unfoldable pub asked_verdict : List ℕ → List ℕ → Result Unit Refusal
+asked_verdict r t = cond (ltb 65535 (length t)) (Err (refusal_at 21 0)) (judge 0 (length r) (map turn_asked (asked_of r t)))
 
-abbrev pub verdict_then : Verdict → Verdict → Verdict
-verdict_then Fine v = v
-verdict_then (Flawed n p) v = Flawed n p
+abbrev pub verdict_then : Result Unit Refusal → Result Unit Refusal → Result Unit Refusal
+verdict_then (Ok u) v = v
+verdict_then (Err e) v = Err e
 
-unfoldable pub size_verdict : List ℕ → Verdict
-size_verdict w = cond (ltb 65535 (length w)) (Flawed 21 0) Fine
+unfoldable pub size_verdict : List ℕ → Result Unit Refusal
+size_verdict w = cond (ltb 65535 (length w)) (Err (refusal_at 21 0)) (Ok tt)
 
 unfoldable pub written_by : List ℕ → List ℕ → List ℕ
 written_by r t = writing_of (told_asked (asked_of r t))
 
-unfoldable pub write_verdict : List ℕ → List ℕ → Verdict
+unfoldable pub write_verdict : List ℕ → List ℕ → Result Unit Refusal
 write_verdict r t = verdict_then (asked_verdict r t) (size_verdict (written_by r t))
 
-unfoldable pub write_answer : ℕ → List ℕ → List ℕ → Answer
+unfoldable pub write_answer : ℕ → List ℕ → List ℕ → Result ℕ Refusal
 write_answer room r t = judged (write_verdict r t) (fitted room (written_by r t))
 
 unfoldable pub write_room : List ℕ → List ℕ → List ℕ → List ℕ

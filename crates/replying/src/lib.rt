@@ -6,41 +6,23 @@ ghost use Rattle.std.proofs.lemmas.List.Edits.{sets};
 ghost use Rattle.text.specs.Lists.{any_of};
 ghost use Rattle.terms.specs.Signs.{raw, raws};
 ghost use Rattle.terms.specs.Quotes.{in_quotes, closing};
-ghost use Rattle.words.specs.Words.{reply_record_len};
-ghost use Rattle.replies.specs.Lines.{begins, is_end, is_quote};
-ghost use Rattle.replies.specs.Items.{item, group, endgroup, endoutput};
-ghost use Rattle.replying.specs.Records.{field_at, told_by_kind, record_told, asked_of};
-ghost use Rattle.replying.specs.Writing.{value_line, line_of, turn_told, turn_or_wrong, written_by, write_answer, write_room};
-ghost use Rattle.replying.specs.Steps.{cue_told, Held, is_final_cue, line_told, led_by, capped, sized, weighed};
+ghost use Rattle.replies.specs.Lines.{is_end};
+ghost use Rattle.replies.specs.Items.{item, group};
+ghost use Rattle.replying.specs.Records.{field_at, part_at, record_told, asked_of};
+ghost use Rattle.replying.specs.Writing.{value_line, line_of, turn_told, written_by, write_answer, write_room};
+ghost use Rattle.replying.specs.Steps.{part_told, cue_told, told_by_cue, Held, HeldCue, led_by, capped, sized, weighed};
 
-use replies::{is_end, is_keyword};
-use text::{Answer, copy, pair, put};
+use replies::{begins_quote, is_end, is_keyword};
+use text::{Refusal, copy, pair, put};
+use words::reply_record_len;
 
-// What a record tells: where its parts stand in the text, and how long they are.
+// What a record tells, by the parts of the text that it names.
 #[derive(Clone, Copy)]
-enum Cue {
-    Item {
-        k: usize,
-        m: usize,
-        v: usize,
-        n: usize,
-    },
-    Group {
-        k: usize,
-        m: usize,
-    },
+enum Cue<'a> {
+    Item { keyword: &'a [u8], value: &'a [u8] },
+    Group { name: &'a [u8] },
     Close,
     End,
-    // Of no such kind, cut, or with a part past the text.
-    Bad,
-}
-
-// What a record leads to: the next one at a depth, the reply's end, or a refusal by its number.
-#[derive(Clone, Copy)]
-enum Led {
-    On(usize),
-    Done,
-    Refused(u8),
 }
 
 // ---- records
@@ -53,83 +35,35 @@ fn field(rec: &[u8], at: usize) -> usize
     pair(rec[at], rec[at + 1])
 }
 
-// How long a whole record is, by its kind. Those of a reply are asked for one by one: so each is known when this is compiled.
-fn len_of(kind: u8) -> usize
-    ensures { result ≡ reply_record_len kind }
+// The part of the text whose position and length stand at a place of a record; none where it reaches past the text.
+fn part_at<'a>(rec: &[u8], at: usize, text: &'a [u8]) -> Option<&'a [u8]>
+    requires { at + 4 ≤ length rec.now }
+    ensures { part_told result ≡ part_at text.now rec.now at }
 {
-    match kind {
-        64 => words::reply_record_len(64),
-        65 => words::reply_record_len(65),
-        66 => words::reply_record_len(66),
-        67 => words::reply_record_len(67),
-        _ => words::reply_record_len(kind),
-    }
+    let from = field(rec, at);
+    text.get(from..from + field(rec, at + 2))
 }
 
-// What an item's record tells.
-fn item_cue(rec: &[u8], text: &[u8]) -> Cue
-    requires { 9 ≤ length rec.now }
-    ensures { (cue_told text.now result ≡ told_by_kind text.now rec.now 64) × Held text.now result }
+// What the record tells that some bytes begin with; none where it is of no kind of a reply's, cut, or with a part past the text.
+#[tactic(auto, unfolding(crate::specs::Records::record_told))]
+fn cue_of<'a>(rec: &[u8], text: &'a [u8]) -> Option<Cue<'a>>
+    requires { (0 < length rec.now) × (length text.now ≤ 65535) }
+    ensures { (cue_told result ≡ record_told text.now rec.now) × Held result }
 {
-    let k = field(rec, 1);
-    let m = field(rec, 3);
-    if text.len() < k + m {
-        return Cue::Bad;
+    if rec.len() < reply_record_len(rec[0]) {
+        return None;
     }
-    let v = field(rec, 5);
-    let n = field(rec, 7);
-    if text.len() < v + n {
-        return Cue::Bad;
-    }
-    Cue::Item { k, m, v, n }
-}
-
-// What a group's record tells.
-fn group_cue(rec: &[u8], text: &[u8]) -> Cue
-    requires { 5 ≤ length rec.now }
-    ensures { (cue_told text.now result ≡ told_by_kind text.now rec.now 65) × Held text.now result }
-{
-    let k = field(rec, 1);
-    let m = field(rec, 3);
-    if text.len() < k + m {
-        return Cue::Bad;
-    }
-    Cue::Group { k, m }
-}
-
-// What the record tells that some bytes begin with.
-fn cue_of(rec: &[u8], text: &[u8]) -> Cue
-    requires { 0 < length rec.now }
-    ensures { (cue_told text.now result ≡ record_told text.now rec.now) × Held text.now result }
-{
-    let kind = rec[0];
-    if rec.len() < len_of(kind) {
-        return Cue::Bad;
-    }
-    match kind {
-        64 => item_cue(rec, text),
-        65 => group_cue(rec, text),
-        66 => Cue::Close,
-        67 => Cue::End,
-        _ => Cue::Bad,
-    }
-}
-
-// Whether nothing is looked at after a record.
-fn is_last(c: Cue) -> bool
-    ensures { result ≡ is_final_cue c }
-{
-    match c {
-        Cue::Item {
-            k: _,
-            m: _,
-            v: _,
-            n: _,
-        } => false,
-        Cue::Group { k: _, m: _ } => false,
-        Cue::Close => false,
-        Cue::End => true,
-        Cue::Bad => true,
+    match rec[0] {
+        64 => Some(Cue::Item {
+            keyword: part_at(rec, 1, text)?,
+            value: part_at(rec, 5, text)?,
+        }),
+        65 => Some(Cue::Group {
+            name: part_at(rec, 1, text)?,
+        }),
+        66 => Some(Cue::Close),
+        67 => Some(Cue::End),
+        _ => None,
     }
 }
 
@@ -139,22 +73,7 @@ fn is_last(c: Cue) -> bool
 fn has_end(v: &[u8]) -> bool
     ensures { result ≡ any_of is_end v.now }
 {
-    let mut any = false;
-    let mut i: usize = 0;
-    while i < v.len() {
-        any = any | is_end(v[i]);
-        i += 1;
-    }
-    any
-}
-
-fn begins_quote(v: &[u8]) -> bool
-    ensures { result ≡ begins is_quote v.now }
-{
-    if v.len() == 0 {
-        return false;
-    }
-    v[0] == b'"'
+    v.iter().fold(false, |any, b| any | is_end(*b))
 }
 
 // A text as it is, where it has room; tells whether it holds CR or LF. One loop does both, and has no other way out.
@@ -163,11 +82,9 @@ fn copy_within(out: &mut [u8], at: usize, v: &[u8]) -> bool
     ensures { (result ≡ any_of is_end v.now) × (out.new ≡ sets out.old at v.now) }
 {
     let mut any = false;
-    let mut i: usize = 0;
-    while i < v.len() {
-        any = any | is_end(v[i]);
-        out[at + i] = v[i];
-        i += 1;
+    for (i, b) in v.iter().enumerate() {
+        any = any | is_end(*b);
+        out[at + i] = *b;
     }
     any
 }
@@ -176,14 +93,13 @@ fn copy_within(out: &mut [u8], at: usize, v: &[u8]) -> bool
 fn copy_seeing(out: &mut [u8], at: usize, v: &[u8]) -> bool
     ensures { (result ≡ any_of is_end v.now) × (out.new ≡ sets out.old at v.now) }
 {
-    if out.len() < at {
-        return has_end(v);
+    match out.len().checked_sub(at) {
+        Some(left) if v.len() <= left => copy_within(out, at, v),
+        _ => {
+            copy(out, at, v);
+            has_end(v)
+        }
     }
-    if out.len() - at < v.len() {
-        copy(out, at, v);
-        return has_end(v);
-    }
-    copy_within(out, at, v)
 }
 
 // A text as it is.
@@ -221,10 +137,8 @@ fn put_closing(out: &mut [u8], at: usize, s: &[u8]) -> usize
     ensures { (result ≡ at + length (raws (closing s.now))) × (out.new ≡ sets out.old at (raws (closing s.now))) × (result ≤ at + 2 * length s.now + 1) }
 {
     let mut w = at;
-    let mut i: usize = 0;
-    while i < s.len() {
-        w = put_in_quotes(out, w, s[i]);
-        i += 1;
+    for b in s {
+        w = put_in_quotes(out, w, *b);
     }
     put_byte(out, w, b'"')
 }
@@ -263,155 +177,103 @@ fn put_group(out: &mut [u8], at: usize, name: &[u8]) -> usize
     put_byte(out, e, b'\n')
 }
 
-// The line of what a record tells; a bad one has none.
-fn put_line(out: &mut [u8], at: usize, text: &[u8], c: Cue) -> usize
-    requires { (at ≤ 65535) × (length text.now ≤ 65535) × Held text.now c }
-    ensures { (result ≡ at + length (line_told (cue_told text.now c))) × (out.new ≡ sets out.old at (line_told (cue_told text.now c))) }
+// The line of what a record tells.
+#[tactic(auto, unfolding(crate::specs::Writing::line_of, text::specs::Bytes::bytes))]
+fn put_line(out: &mut [u8], at: usize, cue: Cue) -> usize
+    requires { (at ≤ 65535) × HeldCue cue }
+    ensures { (result ≡ at + length (line_of (told_by_cue cue.entry))) × (out.new ≡ sets out.old at (line_of (told_by_cue cue.entry))) }
 {
-    match c {
-        Cue::Item { k, m, v, n } => put_item(out, at, &text[k..k + m], &text[v..v + n]),
-        Cue::Group { k, m } => put_group(out, at, &text[k..k + m]),
+    match cue {
+        Cue::Item { keyword, value } => put_item(out, at, keyword, value),
+        Cue::Group { name } => put_group(out, at, name),
         Cue::Close => put_text(out, at, b"endgroup\n"),
         Cue::End => put_text(out, at, b"endoutput\n"),
-        Cue::Bad => at,
     }
 }
 
 // ---- how long lines are, counted and not written: this is done for all records before anything is written
 
-fn in_quotes_len(b: u8) -> usize
-    ensures { (result ≡ length (raw (in_quotes b))) × (result ≤ 2) }
-{
-    match b {
-        b'`' => 2,
-        b'"' => 2,
-        _ => 1,
-    }
-}
-
+// What follows the opening quote: GRAVE stands before each `"` and GRAVE, and the closing quote behind them all.
 fn closing_len(s: &[u8]) -> usize
     requires { length s.now ≤ 65535 }
     ensures { (result ≡ length (raws (closing s.now))) × (result ≤ 2 * length s.now + 1) }
 {
-    let mut n: usize = 1;
-    let mut i: usize = 0;
-    while i < s.len() {
-        n += in_quotes_len(s[i]);
-        i += 1;
-    }
-    n
+    s.len() + s.iter().filter(|b| matches!(**b, b'`' | b'"')).count() + 1
 }
 
+#[tactic(auto, unfolding(crate::specs::Writing::value_line, terms::specs::Signs::raws))]
 fn value_len(v: &[u8]) -> usize
     requires { length v.now ≤ 65535 }
     ensures { (result ≡ length (value_line v.now)) × (result ≤ 2 * length v.now + 2) }
 {
     if has_end(v) | begins_quote(v) {
-        return 1 + closing_len(v);
+        1 + closing_len(v)
+    } else {
+        v.len()
     }
-    v.len()
 }
 
-fn line_len(text: &[u8], c: Cue) -> usize
-    requires { (length text.now ≤ 65535) × Held text.now c }
-    ensures { (result ≡ length (line_told (cue_told text.now c))) × (result ≤ 300000) }
+#[tactic(auto, using(crate::proofs::LineLaws::item_length, crate::proofs::LineLaws::group_length, crate::proofs::LineLaws::ends_length))]
+fn line_len(cue: Cue) -> usize
+    requires { HeldCue cue }
+    ensures { (result ≡ length (line_of (told_by_cue cue.entry))) × (result ≤ 300000) }
 {
-    match c {
-        Cue::Item { k: _, m, v, n } => m + 2 + value_len(&text[v..v + n]),
-        Cue::Group { k: _, m } => m + 12,
+    match cue {
+        Cue::Item { keyword, value } => keyword.len() + 2 + value_len(value),
+        Cue::Group { name } => name.len() + 12,
         Cue::Close => 9,
         Cue::End => 10,
-        Cue::Bad => 0,
     }
 }
 
 // ---- what is refused
 
-// 21 where its keyword is none.
-fn judge_item(k: &[u8], depth: usize) -> Led
-    ensures { result ≡ led_by (turn_told (item k.now [])) depth }
+// What a record leads to at a depth: the next one at a depth, or none after the reply's end. Refused are an item whose keyword is none and a group whose type
+// is no name (21), then a group in eight already (23), the end of a group where none is open (22), and the reply's end where one is (24).
+fn judge(cue: Cue, depth: usize) -> Result<Option<usize>, u8>
+    ensures { result ≡ led_by (turn_told (told_by_cue cue.entry)) depth }
 {
-    if is_keyword(k) {
-        return Led::On(depth);
-    }
-    Led::Refused(21)
-}
-
-// 21 where its type is no name, then 23 in eight groups already.
-fn judge_group(name: &[u8], depth: usize) -> Led
-    ensures { result ≡ led_by (turn_told (group name.now)) depth }
-{
-    if !forms::is_name(name) {
-        return Led::Refused(21);
-    }
-    if 8 <= depth {
-        return Led::Refused(23);
-    }
-    Led::On(depth + 1)
-}
-
-// 22 without a group.
-fn judge_close(depth: usize) -> Led
-    ensures { result ≡ led_by (turn_told endgroup) depth }
-{
-    if depth == 0 {
-        return Led::Refused(22);
-    }
-    Led::On(depth - 1)
-}
-
-// 24 in an open group.
-fn judge_end(depth: usize) -> Led
-    ensures { result ≡ led_by (turn_told endoutput) depth }
-{
-    if depth == 0 {
-        return Led::Done;
-    }
-    Led::Refused(24)
-}
-
-// What a record leads to at a depth.
-fn judge(text: &[u8], c: Cue, depth: usize) -> Led
-    requires { Held text.now c }
-    ensures { result ≡ led_by (turn_or_wrong (cue_told text.now c)) depth }
-{
-    match c {
-        Cue::Item { k, m, v: _, n: _ } => judge_item(&text[k..k + m], depth),
-        Cue::Group { k, m } => judge_group(&text[k..k + m], depth),
-        Cue::Close => judge_close(depth),
-        Cue::End => judge_end(depth),
-        Cue::Bad => Led::Refused(21),
+    match cue {
+        Cue::Item { keyword, value: _ } if is_keyword(keyword) => Ok(Some(depth)),
+        Cue::Item { .. } => Err(21),
+        Cue::Group { name } if !forms::is_name(name) => Err(21),
+        Cue::Group { name: _ } if depth < 8 => Ok(Some(depth + 1)),
+        Cue::Group { name: _ } => Err(23),
+        Cue::Close if depth == 0 => Err(22),
+        Cue::Close => Ok(Some(depth - 1)),
+        Cue::End if depth == 0 => Ok(None),
+        Cue::End => Err(24),
     }
 }
 
 // ---- the reply
 
 // How many bytes are to be written with one line more. Past 65,535 no more are counted: records may be many.
-fn added(text: &[u8], c: Cue, n: usize) -> usize
-    requires { (length text.now ≤ 65535) × Held text.now c }
-    ensures { result ≡ capped n (length (line_told (cue_told text.now c))) }
+#[tactic(auto, unfolding(crate::specs::Steps::capped))]
+fn added(cue: Cue, n: usize) -> usize
+    requires { HeldCue cue }
+    ensures { result ≡ capped n (length (line_of (told_by_cue cue.entry))) }
 {
-    if 65535 < n {
-        return n;
-    }
-    n + line_len(text, c)
+    if 65535 < n { n } else { n + line_len(cue) }
 }
 
 // The answer for so many bytes to be written.
-fn sized(n: usize) -> Answer
+#[tactic(auto, unfolding(crate::specs::Steps::sized))]
+fn sized(n: usize) -> Result<usize, Refusal>
     ensures { result ≡ sized n }
 {
     if n <= 65535 {
-        return Answer::Wrote(n);
-    }
-    Answer::Refused {
-        number: 21,
-        place: 0,
+        Ok(n)
+    } else {
+        Err(Refusal {
+            number: 21,
+            place: 0,
+        })
     }
 }
 
-// Record by record: the first trouble, or how many bytes are to be written.
-fn weigh(records: &[u8], text: &[u8]) -> Answer
+// Record by record: the first trouble, or how many bytes are to be written. By the place, which a refusal names; each record has its own length.
+fn weigh(records: &[u8], text: &[u8]) -> Result<usize, Refusal>
     requires { length text.now ≤ 65535 }
     ensures { result ≡ weighed 0 (length records.now) 0 (asked_of records.now text.now) }
 {
@@ -419,22 +281,24 @@ fn weigh(records: &[u8], text: &[u8]) -> Answer
     let mut depth: usize = 0;
     let mut n: usize = 0;
     while at < records.len() {
-        let c = cue_of(&records[at..], text);
-        let l = judge(text, c, depth);
-        match l {
-            Led::Refused(number) => return Answer::Refused { number, place: at },
-            Led::Done => return sized(added(text, c, n)),
-            Led::On(d) => {
-                n = added(text, c, n);
-                depth = d;
-                at += len_of(records[at]);
-            }
-        }
+        let Some(cue) = cue_of(&records[at..], text) else {
+            return Err(Refusal {
+                number: 21,
+                place: at,
+            });
+        };
+        let next = judge(cue, depth).map_err(|number| Refusal { number, place: at })?;
+        n = added(cue, n);
+        let Some(d) = next else {
+            return sized(n);
+        };
+        depth = d;
+        at += reply_record_len(records[at]);
     }
-    Answer::Refused {
+    Err(Refusal {
         number: 25,
         place: records.len(),
-    }
+    })
 }
 
 // Line by line, what the records tell.
@@ -445,37 +309,34 @@ fn put_all(records: &[u8], text: &[u8], out: &mut [u8])
     let mut at: usize = 0;
     let mut w: usize = 0;
     while at < records.len() {
-        let c = cue_of(&records[at..], text);
-        w = put_line(out, w, text, c);
-        if is_last(c) {
+        let Some(cue) = cue_of(&records[at..], text) else {
+            return;
+        };
+        w = put_line(out, w, cue);
+        if let Cue::End = cue {
             return;
         }
-        at += len_of(records[at]);
+        at += reply_record_len(records[at]);
     }
 }
 
 // The reply that records name, at the start of the room; tells how many bytes it has. A refusal writes nothing.
-pub fn write(records: &[u8], text: &[u8], out: &mut [u8]) -> Answer
+pub fn write(records: &[u8], text: &[u8], out: &mut [u8]) -> Result<usize, Refusal>
     ensures { (result ≡ write_answer (length out.old) records.now text.now) × (out.new ≡ write_room out.old records.now text.now) }
 {
     if 65535 < text.len() {
-        return Answer::Refused {
+        return Err(Refusal {
             number: 21,
             place: 0,
-        };
+        });
     }
-    let a = weigh(records, text);
-    match a {
-        Answer::Refused { number, place } => Answer::Refused { number, place },
-        Answer::Wrote(n) => {
-            if out.len() < n {
-                return Answer::Refused {
-                    number: 19,
-                    place: 0,
-                };
-            }
-            put_all(records, text, out);
-            Answer::Wrote(n)
-        }
+    let n = weigh(records, text)?;
+    if out.len() < n {
+        return Err(Refusal {
+            number: 19,
+            place: 0,
+        });
     }
+    put_all(records, text, out);
+    Ok(n)
 }

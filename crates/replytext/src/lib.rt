@@ -1,12 +1,12 @@
 // The records of a board's reply as text.
 #![tactic(auto)]
 
-ghost use Rattle.std.specs.Prelude.{◌≡◌, ◌∷◌, ◌+◌, ◌≤◌};
-ghost use lib.ListN.{length, get_or};
+ghost use Rattle.std.specs.Prelude.{◌≡◌, ◌∷◌, ◌+◌, ◌*◌, ◌≤◌};
+ghost use lib.ListN.{length};
 ghost use Rattle.std.proofs.lemmas.List.Edits.{sets};
 ghost use Rattle.text.specs.Decimal.{digits};
 ghost use Rattle.text.specs.Room.{be16};
-ghost use Rattle.replytext.specs.Text.{reply_form, text_by, reply_text};
+ghost use Rattle.replytext.specs.Text.{line_by, reply_text};
 
 use text::{copy, pair, put, put_decimal};
 
@@ -19,54 +19,37 @@ fn put_number(out: &mut [u8], at: usize, high: u8, low: u8) -> usize
     at + 1 + put_decimal(out, at + 1, pair(high, low) as u16)
 }
 
-// An item's record.
-fn item_text(rec: &[u8], out: &mut [u8]) -> usize
-    requires { 9 ≤ length rec.now }
-    ensures { (result ≡ length (text_by (reply_form 64) (lib.ListN.drop 1 rec.now))) × (out.new ≡ sets out.old 0 (text_by (reply_form 64) (lib.ListN.drop 1 rec.now))) × (result ≤ 29) }
+// A line of a word and the numbers that stand in some bytes, two to each; tells how many bytes it is.
+fn put_line(out: &mut [u8], word: &[u8], numbers: &[u8]) -> usize
+    requires { length word.now + 3 * length numbers.now ≤ 1000 }
+    ensures { (result ≡ length (line_by word.now numbers.now)) × (out.new ≡ sets out.old 0 (line_by word.now numbers.now)) × (result ≤ length word.now + 3 * length numbers.now + 1) }
 {
-    copy(out, 0, b"item");
-    let a = put_number(out, 4, rec[1], rec[2]);
-    let b = put_number(out, a, rec[3], rec[4]);
-    let c = put_number(out, b, rec[5], rec[6]);
-    let d = put_number(out, c, rec[7], rec[8]);
-    put(out, d, b'\n');
-    d + 1
-}
-
-// A group's record.
-fn group_text(rec: &[u8], out: &mut [u8]) -> usize
-    requires { 5 ≤ length rec.now }
-    ensures { (result ≡ length (text_by (reply_form 65) (lib.ListN.drop 1 rec.now))) × (out.new ≡ sets out.old 0 (text_by (reply_form 65) (lib.ListN.drop 1 rec.now))) × (result ≤ 29) }
-{
-    copy(out, 0, b"group");
-    let a = put_number(out, 5, rec[1], rec[2]);
-    let b = put_number(out, a, rec[3], rec[4]);
-    put(out, b, b'\n');
-    b + 1
+    copy(out, 0, word);
+    let mut at = word.len();
+    let mut rest = numbers;
+    while let [high, low, more @ ..] = rest {
+        at = put_number(out, at, *high, *low);
+        rest = more;
+    }
+    put(out, at, b'\n');
+    at + 1
 }
 
 // The record that some bytes begin with, as a line of text at the room's start; tells how many bytes it is, none where a reply has no such record.
 pub fn record_text(rec: &[u8], out: &mut [u8]) -> usize
     ensures { (result ≡ length (reply_text rec.now)) × (out.new ≡ sets out.old 0 (reply_text rec.now)) × (result ≤ 29) }
 {
-    if rec.len() == 0 {
+    let [kind, ..] = rec else {
         return 0;
-    }
-    let kind = rec[0];
-    if rec.len() < words::reply_record_len(kind) {
+    };
+    if rec.len() < words::reply_record_len(*kind) {
         return 0;
     }
     match kind {
-        64 => item_text(rec, out),
-        65 => group_text(rec, out),
-        66 => {
-            copy(out, 0, b"endgroup\n");
-            9
-        }
-        67 => {
-            copy(out, 0, b"endoutput\n");
-            10
-        }
+        64 => put_line(out, b"item", &rec[1..9]),
+        65 => put_line(out, b"group", &rec[1..5]),
+        66 => put_line(out, b"endgroup", &[]),
+        67 => put_line(out, b"endoutput", &[]),
         _ => 0,
     }
 }

@@ -13,5 +13,5 @@ slice_bounds-is_name-end c = sym (length-take-le _ _ (omega (arith, up_within is
 pub returns-then-is_name : goal.returns-then-is_name
 returns-then-is_name c = group_named c.args.v.now c.row_len-n.result c.row_len-n.ensures (sym c.is_name.ensures ∙ c.if-is_name.true)
 
-pub returns : goal.returns
-returns c = group_wrong c.args.v.now c.row_len-n.result c.row_len-n.ensures (sym c.is_name.ensures ∙ c.if-is_name.false)
+pub returns-else-is_name : goal.returns-else-is_name
+returns-else-is_name c = group_wrong c.args.v.now c.row_len-n.result c.row_len-n.ensures (sym c.is_name.ensures ∙ c.if-is_name.false)

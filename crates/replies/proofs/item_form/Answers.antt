@@ -1,20 +1,19 @@
--- `replies::item_form` meets its contract. Assumes nothing.
-use borrow.Author.Tests.{eq-eqb, ne_eqb}
-use mathlib.Core.Path.{◌∙◌}
-use native.Mathlib.Omega.{arith}
-use Rattle.replies.proofs.FindLaws.{item_empty, item_plain}
-use Rattle.replies.specs.Lines.{is_quote}
-use Rattle.replies.proofs.Fronts.{begins_at}
+-- `replies::item_form` meets its contract.
+use Rattle.std.proofs.Common.{◌≤◌, length, take, drop, ◌-◌, sym, ◌∙◌, arith}
+use Rattle.text.proofs.Slices.{length_from}
+use Rattle.replies.proofs.FindLaws.{closed_within}
 use Rattle.replies.proofs.item_form.Goals as goal
+use Rattle.replies.proofs.item_form.Goals.{In-Some}
 
-pub returns-then-v-eq0 : goal.returns-then-v-eq0
-returns-then-v-eq0 c = item_empty c.args.k c.args.v.now c.if-v-eq0.true
+-- the quote closes within the value
+inside : (c : In-Some) → c.in-Some.n ≤ length (take (length c.args.v.now - 1) (drop 1 c.args.v.now))
+inside c = closed_within _ _ (sym c.quote_len.ensures ∙ c.in-Some.is)
 
-pub quoted_form-requires : goal.quoted_form-requires
-quoted_form-requires c = begins_at c.args.v.now (omega arith) is_quote ∙ eq-eqb _ _ c.if-v-eq34.true
+pub slice_bounds-line_ends-count : goal.slice_bounds-line_ends-count
+slice_bounds-line_ends-count c = inside (goal.at.slice_bounds-line_ends-count c).In-Some
 
-pub returns-then-v-eq34 : goal.returns-then-v-eq34
-returns-then-v-eq34 c = c.quoted_form.ensures
+pub slice_bounds-line_ends-start : goal.slice_bounds-line_ends-start
+slice_bounds-line_ends-start c = let h = inside (goal.at.slice_bounds-line_ends-start c).In-Some in omega arith
 
-pub returns : goal.returns
-returns c = item_plain c.args.k c.args.v.now c.row_len.result c.row_len.ensures (begins_at c.args.v.now (omega arith) is_quote ∙ ne_eqb _ _ c.if-v-eq34.false)
+pub overflow_add-result : goal.overflow_add-result
+overflow_add-result c = let h = inside (goal.at.overflow_add-result c).In-Some in omega (arith, length_from c.args.v.now 1)

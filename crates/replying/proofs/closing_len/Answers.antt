@@ -1,20 +1,12 @@
-use Prim.Native.Nat.{◌+◌}
-use mathlib.Core.Path.{ap, ◌∙◌}
-use native.Mathlib.Omega.{arith}
-use lib.ListN.{length, get_or, drop, length-append}
-use Rattle.terms.specs.Signs.{raw, raws}
-use Rattle.terms.specs.Quotes.{in_quotes, closing}
-use Rattle.replying.proofs.LineLaws.{closing_on, closing_past}
+-- `replying::closing_len` meets its contract.
+use Rattle.std.proofs.Common.{◌≡◌, arith, rules, tests}
+use Rattle.std.specs.List.{count_by}
+use Rattle.std.proofs.lemmas.List.Sums.{count_by-le-length}
+use Rattle.replying.proofs.LineLaws.{is_graved, closing_length}
 use Rattle.replying.proofs.closing_len.Goals as goal
 
-pub loop-i-init : goal.loop-i-init
-loop-i-init c = (omega arith, omega arith, omega arith)
-
-pub overflow_add-n : goal.overflow_add-n
-overflow_add-n c = omega (arith, c.in_quotes_len-n.ensures.1)
-
-pub loop-i-preserved : goal.loop-i-preserved
-loop-i-preserved c = (omega arith, omega (arith, c.in_quotes_len-n.ensures.1), omega (arith, c.in_quotes_len-n.ensures.0, ap length (closing_on c.args.s.now c.loop-i.i c.loop-i-test.true) ∙ length-append (raw (in_quotes (get_or c.args.s.now c.loop-i.i 0))) (raws (closing (drop (c.loop-i.i + 1) c.args.s.now))), c.loop-i.invariant.2))
-
 pub returns : goal.returns
-returns c = (omega (arith, ap length (closing_past c.args.s.now c.loop-i.i c.loop-i-test.false), c.loop-i.invariant.2), omega arith)
+returns c =
+    let s = c.args.s.now in
+    let n : c.count.result ≡ count_by is_graved s = search (rules, tests) in
+    (omega (arith, n, closing_length s), omega (arith, n, count_by-le-length is_graved s))

@@ -1,19 +1,24 @@
-use Prim.Native.Nat.{ℕ, ◌+◌}
-use mathlib.Core.List.{List}
-use lib.ListN.{set, get_or, length-set}
-use mathlib.Core.Path.{refl, sym, ap, ◌∙◌}
-use native.Mathlib.Omega.{arith}
+-- `replying::copy_within` meets its contract.
+use Rattle.std.proofs.Common.{ℕ, ◌+◌, List, get_or, sym, ap, ◌∙◌}
+use lib.ListN.{set, length-set}
 use lib.Seq.{sets, take_all}
 use Rattle.text.proofs.Writes.{copy_more}
-use Rattle.replies.specs.Lines.{is_end}
 use Rattle.text.proofs.Scans.{any_kept, any_ended}
+use Rattle.replies.specs.Lines.{is_end}
 use Rattle.replying.proofs.copy_within.Goals as goal
 
-pub loop-i-init : goal.loop-i-init
-loop-i-init c = (omega arith, refl, refl, refl)
-
 pub loop-i-preserved : goal.loop-i-preserved
-loop-i-preserved c = (omega arith, length-set c.loop-i.out (c.args.at + c.loop-i.i) _ ∙ c.loop-i.invariant.1, any_kept is_end c.args.v.now c.loop-i.i c.loop-i.any c.is_end-any.result c.loop-i-test.true c.is_end-any.ensures ∙ c.loop-i.invariant.2, ap (λ (o : List ℕ). set o (c.args.at + c.loop-i.i) (get_or c.args.v.now c.loop-i.i 0)) c.loop-i.invariant.3 ∙ copy_more c.args.v.now c.args.out.now c.args.at c.loop-i.i 0 c.loop-i-test.true)
+loop-i-preserved c =
+    let l = c.loop-i in
+    let v = c.args.v.now in
+    let at = c.args.at in (
+      length-set l.out (at + l.i) _ ∙ l.invariant.0,
+      any_kept is_end v l.i l.any c.is_end-any.result c.loop-i-test.true c.is_end-any.ensures ∙ l.invariant.1,
+      ap (λ (o : List ℕ). set o (at + l.i) (get_or v l.i 0)) l.invariant.2 ∙ copy_more v c.args.out.now at l.i 0 c.loop-i-test.true,
+    )
 
 pub returns : goal.returns
-returns c = (sym (any_ended is_end c.args.v.now c.loop-i.i c.loop-i.any c.loop-i-test.false) ∙ c.loop-i.invariant.2, c.loop-i.invariant.3 ∙ ap (sets c.args.out.now c.args.at) (take_all c.loop-i.i c.args.v.now c.loop-i-test.false))
+returns c =
+    let l = c.loop-i in
+    let v = c.args.v.now in
+    (sym (any_ended is_end v l.i l.any c.loop-i-test.false) ∙ l.invariant.1, l.invariant.2 ∙ ap (sets c.args.out.now c.args.at) (take_all l.i v c.loop-i-test.false))

@@ -1,14 +1,12 @@
-use mathlib.Core.Path.{sym, ◌∙◌}
+-- `replying::has_end` meets its contract.
+use Rattle.std.proofs.Common.{ℕ, Bool, ◌||◌, ◌∙◌, false, rules, tests}
+use Rattle.std.proofs.lemmas.Iterator.{YieldsList-from_slice}
+use Rattle.std.proofs.lemmas.Iterator.Consumers.{fold_from_yields_List}
 use Rattle.replies.specs.Lines.{is_end}
-use Rattle.text.proofs.Scans.{any_kept, any_ended}
+use Rattle.replying.proofs.Chains.{any_folded}
 use Rattle.replying.proofs.has_end.Goals as goal
-
-pub loop-i-preserved : goal.loop-i-preserved
-loop-i-preserved c =
-    let l = c.loop-i in
-    any_kept is_end c.args.v.now l.i l.any c.is_end-any.result c.loop-i-test.true c.is_end-any.ensures ∙ l.invariant
 
 pub returns : goal.returns
 returns c =
-    let l = c.loop-i in
-    sym (any_ended is_end c.args.v.now l.i l.any c.loop-i-test.false) ∙ l.invariant
+    let xs = c.args.v.now in
+    fold_from_yields_List _ (λ (a : Bool) (b : ℕ). a || is_end b) false _ c.fold.ensures.ran (YieldsList-from_slice xs cc) (λ a x b q k. search (rules, tests)) ∙ any_folded is_end false xs

@@ -1,65 +1,55 @@
-use Prim.Native.Nat.{◌+◌, ◌≤◌}
-use mathlib.Core.Path.{◌≡◌, refl, sym, ap, ◌∙◌}
-use lib.ListN.{length}
-use lib.Seq.{sets}
-use mathlib.Core.Bool.{false}
+use Rattle.std.proofs.Common.{◌≡◌, ◌+◌, ◌≤◌, refl, sym, ap, ◌∙◌, length, List, true, arith}
+use Rattle.std.proofs.lemmas.List.Edits.{sets}
+use Rattle.std.proofs.Common.{Option as StdOption, Some}
+use Rattle.std.proofs.Math.Option.{Option, none, some}
+use Rattle.replies.specs.Items.{Told}
+use Rattle.replying.specs.declared.Cue.{Cue}
 use Rattle.replying.specs.Records.{is_final, Asked, asked_of}
 use Rattle.replying.specs.Writing.{told_asked, writing_of, written_by}
-use Rattle.replying.specs.Steps.{cue_told}
-use mathlib.Core.List.{List}
-use Rattle.replying.proofs.RecordLaws.{last_final, asked_within, asked_past}
+use Rattle.replying.specs.Steps.{cue_told, told_by_cue}
+use Rattle.replying.proofs.RecordLaws.{asked_within, asked_past, goes_on_cue}
 use Rattle.replying.proofs.WeighLaws.{put_last, put_next}
-use native.Mathlib.Omega.{arith}
 use Rattle.replying.proofs.put_all.Goals as goal
-use Rattle.replying.proofs.put_all.Goals.{After-len_of-at}
+use Rattle.replying.proofs.put_all.Goals.{After-reply_record_len-at}
 
--- this record is not the last; the next one's place
-goes_on_lem : (c : After-len_of-at) → is_final (cue_told c.args.text.now c.cue_of-c.result) ≡ false
-goes_on_lem c = sym (last_final c.args.text.now c.cue_of-c.result) ∙ sym c.is_last.ensures ∙ c.if-is_last.false
+-- what the record tells
+told : {o : StdOption Cue} {c : Cue} {x : Option Told} → o ≡ Some c → cue_told o ≡ x → some (told_by_cue c) ≡ x
+told i e = sym (ap cue_told i) ∙ e
 
-within : (c : After-len_of-at) → (1 ≤ c.len_of-at.result) × (c.loop-at.at + c.len_of-at.result ≤ length c.args.records.now)
+-- the next one's place
+within : (c : After-reply_record_len-at) → (1 ≤ c.reply_record_len-at.result) × (c.loop-at.at + c.reply_record_len-at.result ≤ length c.args.records.now)
 within c =
-    let l = c.loop-at in
-    let a = c.args in
-    let q = c.cue_of-c in
-    let h = c.loop-at-test.true in
-    asked_within a.records.now a.text.now l.at h (cue_told a.text.now q.result) q.ensures.0 c.len_of-at.result c.len_of-at.ensures (goes_on_lem c)
+    asked_within c.args.records.now c.args.text.now c.loop-at.at c.loop-at-test.true _ (told c.in-Some.is c.cue_of.ensures.0) c.reply_record_len-at.result c.reply_record_len-at.ensures (goes_on_cue c.in-Some.cue c.in_default-cue.not-End)
 
 pub loop-at-init : goal.loop-at-init
 unfolding written_by asked_of
 loop-at-init c = (refl, omega arith, refl, omega arith)
 
-pub put_line-w-requires : goal.put_line-w-requires
-put_line-w-requires c = (omega (arith, c.loop-at.invariant.1, c.requires.1), c.requires.0, c.cue_of-c.ensures.1)
-
-pub returns-then-is_last : goal.returns-then-is_last
-returns-then-is_last c =
+pub returns-in_default : goal.returns-in_default
+returns-in_default c =
     let l = c.loop-at in
-    let a = c.args in
-    let q = c.cue_of-c in
-    let p = c.put_line-w in
-    let h = c.loop-at-test.true in
-    put_last a.records.now a.text.now l.at h (cue_told a.text.now q.result) q.ensures.0 l.out p.new.out _ l.w p.result l.invariant.0 p.ensures.0 p.ensures.1 (sym (last_final a.text.now q.result) ∙ sym c.is_last.ensures ∙ c.if-is_last.true)
+    let w : l.w ≡ l.w + 0 = omega arith in
+    put_last c.args.records.now c.args.text.now l.at c.loop-at-test.true none (sym (ap cue_told c.in_default.is) ∙ c.cue_of.ensures.0) l.out l.out _ l.w l.w l.invariant.0 w refl refl
 
-pub overflow_add-at : goal.overflow_add-at
-overflow_add-at c = omega (arith, within (goal.at.overflow_add-at c).After-len_of-at)
+pub returns-in-End : goal.returns-in-End
+returns-in-End c =
+    let l = c.loop-at in
+    let p = c.put_line-w in
+    let f : is_final (some (told_by_cue c.in-Some.cue)) ≡ true = rw c.in-End.is refl in
+    put_last c.args.records.now c.args.text.now l.at c.loop-at-test.true _ (told c.in-Some.is c.cue_of.ensures.0) l.out p.new.out _ l.w p.result l.invariant.0 p.ensures.0 p.ensures.1 f
 
 pub loop-at-smaller : goal.loop-at-smaller
-loop-at-smaller c = omega (arith, within (goal.at.loop-at-smaller c).After-len_of-at)
+loop-at-smaller c = omega (arith, within c)
 
 pub loop-at-preserved : goal.loop-at-preserved
 loop-at-preserved c =
     let l = c.loop-at in
-    let a = c.args in
-    let q = c.cue_of-c in
     let p = c.put_line-w in
-    let h = c.loop-at-test.true in
-    let x = put_next a.records.now a.text.now l.at h (cue_told a.text.now q.result) q.ensures.0 l.out p.new.out _ l.w p.result l.invariant.0 p.ensures.0 p.ensures.1 (goes_on_lem (goal.at.loop-at-preserved c).After-len_of-at) c.len_of-at.result c.len_of-at.ensures _ l.invariant.1 in
-    (x.0, x.1, omega arith, (within (goal.at.loop-at-preserved c).After-len_of-at).1)
+    let x = put_next c.args.records.now c.args.text.now l.at c.loop-at-test.true _ (told c.in-Some.is c.cue_of.ensures.0) l.out p.new.out _ l.w p.result l.invariant.0 p.ensures.0 p.ensures.1 (goes_on_cue c.in-Some.cue c.in_default-cue.not-End) c.reply_record_len-at.result c.reply_record_len-at.ensures _ l.invariant.1 in
+    (x.0, x.1, omega arith, (within c).1)
 
 pub returns : goal.returns
 unfolding writing_of told_asked
 returns c =
     let l = c.loop-at in
-    let a = c.args in
-    sym (ap (λ (z : List Asked). sets l.out l.w (writing_of (told_asked z))) (asked_past a.records.now a.text.now l.at c.loop-at-test.false)) ∙ l.invariant.0
+    sym (ap (λ (z : List Asked). sets l.out l.w (writing_of (told_asked z))) (asked_past c.args.records.now c.args.text.now l.at c.loop-at-test.false)) ∙ l.invariant.0

@@ -1,68 +1,59 @@
-use Prim.Native.Nat.{◌+◌, ◌≤◌}
-use mathlib.Core.Path.{refl, sym, ap, ◌∙◌}
-use lib.ListN.{length}
+-- `replying::weigh` meets its contract.
+use Rattle.std.proofs.Common.{◌≡◌, ◌+◌, ◌≤◌, refl, sym, ap, ◌∙◌, length, Ok, Err, arith, rules}
+use Rattle.std.proofs.Math.Option.{none}
 use Rattle.replying.specs.Records.{asked_of}
 use Rattle.replying.specs.Steps.{cue_told, weighed}
 use Rattle.replying.proofs.RecordLaws.{asked_past}
-use Rattle.replying.proofs.WeighLaws.{turn_refused, turn_done, turn_within, turn_on, weigh_none}
-use native.Mathlib.Omega.{arith}
+use Rattle.replying.proofs.WeighLaws.{turn_refused, turn_placed, turn_done, turn_within, turn_on, weigh_none}
 use Rattle.replying.proofs.weigh.Goals as goal
-use Rattle.replying.proofs.weigh.Goals.{After-len_of-at}
+use Rattle.replying.proofs.weigh.Goals.{In_ok-next, After-reply_record_len}
+
+-- what a record leads to, which is no refusal
+led : (c : In_ok-next) → c.judge.result ≡ Ok c.in_ok-next.next
+led c = search rules
 
 -- the next record's place
-within : (c : After-len_of-at) → (1 ≤ c.len_of-at.result) × (c.loop-at.at + c.len_of-at.result ≤ length c.args.records.now)
+within : (c : After-reply_record_len) → (1 ≤ c.reply_record_len.result) × (c.loop-at.at + c.reply_record_len.result ≤ length c.args.records.now)
 within c =
     let l = c.loop-at in
-    let a = c.args in
-    let q = c.cue_of-c in
-    let h = c.loop-at-test.true in
-    turn_within a.records.now a.text.now l.at h (cue_told a.text.now q.result) q.ensures.0 l.depth _ (sym c.in-On.is ∙ c.judge-l.ensures) c.len_of-at.result c.len_of-at.ensures
+    let j : c.judge.result ≡ Ok c.in_ok-next.next = search rules in
+    turn_within c.args.records.now c.args.text.now l.at c.loop-at-test.true _ (sym (ap cue_told c.in-Some.is) ∙ c.cue_of.ensures.0) l.depth _ (sym (j ∙ ap Ok c.in-Some-next.is) ∙ c.judge.ensures) c.reply_record_len.result c.reply_record_len.ensures
 
 pub loop-at-init : goal.loop-at-init
 unfolding asked_of
 loop-at-init c = (refl, omega arith)
 
-pub judge-l-requires : goal.judge-l-requires
-judge-l-requires c = c.cue_of-c.ensures.1
-
-pub returns-in-Refused : goal.returns-in-Refused
-returns-in-Refused c =
+pub returns-in_default : goal.returns-in_default
+returns-in_default c =
     let l = c.loop-at in
-    let a = c.args in
-    let q = c.cue_of-c in
-    let h = c.loop-at-test.true in
-    turn_refused a.records.now a.text.now l.at h (cue_told a.text.now q.result) q.ensures.0 l.depth l.n _ l.invariant.0 _ (sym c.in-Refused.is ∙ c.judge-l.ensures)
+    turn_refused c.args.records.now c.args.text.now l.at c.loop-at-test.true none (sym (ap cue_told c.in_default.is) ∙ c.cue_of.ensures.0) l.depth l.n _ l.invariant.0 21 refl
 
-pub added-requires : goal.added-requires
-added-requires c = (c.requires, c.cue_of-c.ensures.1)
-
-pub returns-in-Done : goal.returns-in-Done
-returns-in-Done c =
+pub returns-in_err-next : goal.returns-in_err-next
+returns-in_err-next c =
     let l = c.loop-at in
-    let a = c.args in
-    let q = c.cue_of-c in
-    let h = c.loop-at-test.true in
-    c.sized.ensures ∙ turn_done a.records.now a.text.now l.at h (cue_told a.text.now q.result) q.ensures.0 l.depth l.n _ l.invariant.0 (sym c.in-Done.is ∙ c.judge-l.ensures) c.added.result c.added.ensures
+    let q = c.in_err-next.field-0.0 in
+    let r : c.from_residual.result ≡ Err q = search rules in
+    r ∙ turn_placed c.args.records.now c.args.text.now l.at c.loop-at-test.true _ (sym (ap cue_told c.in-Some.is) ∙ c.cue_of.ensures.0) l.depth l.n _ l.invariant.0 c.judge.result c.map_err.result c.map_err.ensures.cases (λ k q z. search rules) c.judge.ensures q c.in_err-next.was
 
-pub added-n-requires : goal.added-n-requires
-added-n-requires c = (c.requires, c.cue_of-c.ensures.1)
-
-pub overflow_add-at : goal.overflow_add-at
-overflow_add-at c = omega (arith, within (goal.at.overflow_add-at c).After-len_of-at)
+pub returns-in_default-next : goal.returns-in_default-next
+returns-in_default-next c =
+    let l = c.loop-at in
+    let j = led (goal.at.returns-in_default-next c).In_ok-next ∙ ap Ok c.in_default-next.is in
+    c.sized.ensures ∙ turn_done c.args.records.now c.args.text.now l.at c.loop-at-test.true _ (sym (ap cue_told c.in-Some.is) ∙ c.cue_of.ensures.0) l.depth l.n _ l.invariant.0 (sym j ∙ c.judge.ensures) c.added-n.result c.added-n.ensures
 
 pub loop-at-smaller : goal.loop-at-smaller
-loop-at-smaller c = omega (arith, within (goal.at.loop-at-smaller c).After-len_of-at)
+loop-at-smaller c = omega (arith, within c)
 
 pub loop-at-preserved : goal.loop-at-preserved
 loop-at-preserved c =
     let l = c.loop-at in
-    let a = c.args in
-    let q = c.cue_of-c in
-    let h = c.loop-at-test.true in
-    (turn_on a.records.now a.text.now l.at h (cue_told a.text.now q.result) q.ensures.0 l.depth l.n _ l.invariant.0 _ (sym c.in-On.is ∙ c.judge-l.ensures) c.len_of-at.result c.len_of-at.ensures c.added-n.result c.added-n.ensures, (within (goal.at.loop-at-preserved c).After-len_of-at).1)
+    let j = led (goal.at.loop-at-preserved c).In_ok-next ∙ ap Ok c.in-Some-next.is in (
+      turn_on c.args.records.now c.args.text.now l.at c.loop-at-test.true _ (sym (ap cue_told c.in-Some.is) ∙ c.cue_of.ensures.0) l.depth l.n _ l.invariant.0 _ (sym j ∙ c.judge.ensures) c.reply_record_len.result c.reply_record_len.ensures c.added-n.result c.added-n.ensures,
+      (within c).1,
+    )
 
 pub returns : goal.returns
 returns c =
     let l = c.loop-at in
-    let a = c.args in
-    weigh_none l.depth (length a.records.now) l.n ∙ sym (ap (weighed l.depth (length a.records.now) l.n) (asked_past a.records.now a.text.now l.at c.loop-at-test.false)) ∙ l.invariant.0
+    let e = length c.args.records.now in
+    weigh_none l.depth e l.n ∙ sym (ap (weighed l.depth e l.n) (asked_past c.args.records.now c.args.text.now l.at c.loop-at-test.false)) ∙ l.invariant.0

@@ -1,9 +1,0 @@
--- `replies::is_end` meets its contract. Assumes nothing.
-use borrow.Author.Tests.{eq-eqb, ne_eqb}
-use Rattle.replies.proofs.is_end.Goals as goal
-
-pub returns-then-b-eq13 : goal.returns-then-b-eq13
-returns-then-b-eq13 c = simp (eq-eqb _ _ c.if-b-eq13.true)
-
-pub returns : goal.returns
-returns c = simp (ne_eqb _ _ c.if-b-eq13.false)
