@@ -11,7 +11,6 @@ use lib.ListN.{length, take, drop, length-append}
 use lib.Seq.{take-append_seam, drop-append_seam}
 use Rattle.reading.specs.Reading.{Reading}
 use Rattle.reading.proofs.Folds.{long_left}
-use Rattle.text.specs.declared.Answer.TheVariants.{Refused}
 use Rattle.reading.specs.Records.{answer_in, target_in, part_at, target_part}
 use Rattle.canonical.specs.Canonical.{writing_answer}
 use Rattle.joiner.specs.Lines.{Given, line_or_refused, nothing_open, lines_from, lines_of, open_after, ending_of, trusted, fresh_after}
@@ -21,6 +20,8 @@ use Rattle.joiner.proofs.Trust.{lines_of_append, with_byte, trusted_ends, truste
 use Rattle.capture.specs.Answers.{Lent, SameLent, WholeAnswer, line_answer, answer_to, answers_from, answers_of}
 use Rattle.capture.specs.Trust.{Run, run_answers, run_end, ended_by}
 use Rattle.capture.proofs.Sizes.{same_answer}
+use Rattle.std.proofs.Common.{Err}
+use Rattle.text.specs.Room.{refusal_at}
 
 -- ---- a line of over 1,024 bytes that is handed in directly: the functions answer refusal 1, as joining does
 
@@ -29,7 +30,7 @@ unfolding target_part
 long_target t h = ap (λ (r : Reading). part_at t (target_in r)) (long_left t h)
 
 pub long_line : (l : Lent) (t : List ℕ) → 1024 < length t
-    → ((line_answer l t).read ≡ Refused 1 1024) × ((line_answer l t).canonical ≡ Refused 1 1024) × ((line_answer l t).target ≡ [])
+    → ((line_answer l t).read ≡ Err (refusal_at 1 1024)) × ((line_answer l t).canonical ≡ Err (refusal_at 1 1024)) × ((line_answer l t).target ≡ [])
 unfolding line_answer
 long_line l t h = (
   ap (answer_in (length l.for_records)) (long_left t h),

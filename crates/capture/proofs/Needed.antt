@@ -13,11 +13,13 @@ use Rattle.joiner.specs.Lines.{byte_kind, line_or_refused, next_open, lines_from
 use Rattle.capture.specs.Answers.{Lent, WholeAnswer, answered, not_joined, answers_from, answers_of}
 use Rattle.capture.specs.Trust.{Run, run_answers, run_end, ended_by}
 use Rattle.capture.proofs.Demand3.{run_answers_lem, run_end_lem}
+use Rattle.std.proofs.Common.{Result, Ok, Err}
+use Rattle.text.specs.declared.Refusal.{Refusal}
 
-abbrev is_cut : End → Bool
-is_cut end'.Nothing = false
-is_cut end'.Cut = true
-is_cut (end'.Refused n p) = false
+abbrev is_cut : Result End Refusal → Bool
+is_cut (Ok end'.Nothing) = false
+is_cut (Ok end'.Cut) = true
+is_cut (Err e) = false
 
 -- GRAVE LF after `x` joins, after `x` GRAVE it is an escaped GRAVE and an end of line: the first capture is cut, the second is not
 pub grave_differs : (r : Run ((120 ∷ []) ++ (96 ∷ 10 ∷ []))) (r' : Run ((120 ∷ 96 ∷ []) ++ (96 ∷ 10 ∷ []))) → run_end _ r ≡ run_end _ r' → ⊥

@@ -7,7 +7,6 @@ use mathlib.Core.Bool.{Bool, true, false, cond}
 use lib.ListN.{length, take, drop}
 use lib.Seq.{take-append_seam}
 use lib.Dec.{leb}
-use Rattle.text.specs.declared.Answer.{Answer}
 use Rattle.text.specs.Room.{wrote, fitted, filled}
 use Rattle.joiner.specs.Lines.{Given, line, refused}
 use Rattle.reading.specs.Reading.{Reading, refusal, read, reading_of}
@@ -16,6 +15,8 @@ use Rattle.tree.specs.declared.Resolved.{Resolved}
 use Rattle.tree.specs.Resolve.{Instances, session', nodes, unresolved, instances_of, resolved_by, list_by, resolve_of, resolve_list}
 use Rattle.canonical.specs.Canonical.{items_of, writing, writing_answer, writing_room}
 use Rattle.capture.specs.Answers.{Lent, SameLent, bytes_by, nodes_by, LineAnswer, line_answer, answered, answer_to}
+use Rattle.std.proofs.Common.{Result}
+use Rattle.text.specs.declared.Refusal.{Refusal}
 
 -- what stands at the start of so much room, once a text was to be written there
 abbrev standing : ℕ → List ℕ → List ℕ
@@ -89,7 +90,7 @@ module _ (l m : Lent) (s : SameLent l m) where
 
   module _ (t : List ℕ) where
     -- a line's answer by what is not the same text for both
-    made : Answer → List ℕ → Resolved → List ℕ → Answer → List ℕ → LineAnswer
+    made : Result ℕ Refusal → List ℕ → Result Resolved Refusal → List ℕ → Result ℕ Refusal → List ℕ → LineAnswer
     made a as' v vs w ws =
         record {
           read = a;
@@ -102,7 +103,7 @@ module _ (l m : Lent) (s : SameLent l m) where
           writing = ws;
         }
 
-    alike : (a a' : Answer) (as' bs : List ℕ) (v v' : Resolved) (vs us : List ℕ) (w w' : Answer) (ws xs : List ℕ) → a ≡ a' → as' ≡ bs → v ≡ v' → vs ≡ us → w ≡ w' → ws ≡ xs
+    alike : (a a' : Result ℕ Refusal) (as' bs : List ℕ) (v v' : Result Resolved Refusal) (vs us : List ℕ) (w w' : Result ℕ Refusal) (ws xs : List ℕ) → a ≡ a' → as' ≡ bs → v ≡ v' → vs ≡ us → w ≡ w' → ws ≡ xs
         → made a as' v vs w ws ≡ made a' bs v' us w' xs
     alike a a' as' bs v v' vs us w w' ws xs e f g h i j = rw (e, f, g, h, i, j) refl
 

@@ -1,15 +1,14 @@
 -- A capture's answers: each line with what `read`, `target_span`, `target`, `resolve` and `canonical` answer for it, in the room that is lent at it.
-use Rattle.std.specs.Prelude.{ℕ, suc, ◌≡◌, List, [], ◌∷◌, length, take}
-use Rattle.text.specs.declared.Answer.{Answer}
-use Rattle.text.specs.declared.Answer.TheVariants as answer
+use Rattle.std.specs.Prelude.{ℕ, suc, ◌≡◌, List, [], ◌∷◌, length, take, Result, Ok, Err}
 use Rattle.joiner.specs.Lines.{Given, line, refused, lines_of}
-use Rattle.reading.specs.declared.Span.{Span}
+use Rattle.terms.specs.declared.Span.{Span}
 use Rattle.reading.specs.Reading.{reading_of}
 use Rattle.reading.specs.Records.{answer_in, room_in, target_in, target_part}
 use Rattle.tree.specs.declared.Resolved.{Resolved}
 use Rattle.tree.specs.declared.Resolved.TheVariants as resolved
 use Rattle.tree.specs.Resolve.{resolve_of, resolve_list}
 use Rattle.canonical.specs.Canonical.{writing_answer, writing_room}
+use Rattle.text.specs.declared.Refusal.{Refusal}
 
 -- what is lent at a line: a tree, a default target, and room for records, for node numbers and for the writing
 pub record Lent : Type 0 where
@@ -28,24 +27,24 @@ pub record SameLent (l m : Lent) : Type 0 where
   pub for_writing : length l.for_writing ≡ length m.for_writing
 
 -- how many bytes, or node numbers, stand at the room's start by an answer: on a refusal none
-abbrev pub bytes_by : Answer → ℕ
-bytes_by (answer.Wrote n) = n
-bytes_by (answer.Refused k p) = 0
+abbrev pub bytes_by : Result ℕ Refusal → ℕ
+bytes_by (Ok n) = n
+bytes_by (Err e) = 0
 
-abbrev pub nodes_by : Resolved → ℕ
-nodes_by resolved.Session = 0
-nodes_by (resolved.Nodes n) = n
-nodes_by (resolved.Refused k p) = 0
+abbrev pub nodes_by : Result Resolved Refusal → ℕ
+nodes_by (Ok resolved.Session) = 0
+nodes_by (Ok (resolved.Nodes n)) = n
+nodes_by (Err e) = 0
 
 -- what the functions answer for a line, by the definitions that their promises cite: each answer, and what then stands at its room's start
 pub record LineAnswer : Type 0 where
-  pub read : Answer
+  pub read : Result ℕ Refusal
   pub records : List ℕ
   pub span : Span
   pub target : List ℕ
-  pub resolves : Resolved
+  pub resolves : Result Resolved Refusal
   pub instances : List ℕ
-  pub canonical : Answer
+  pub canonical : Result ℕ Refusal
   pub writing : List ℕ
 
 unfoldable pub line_answer : Lent → List ℕ → LineAnswer

@@ -7,6 +7,8 @@ use Rattle.joiner.specs.Step.{start}
 use Rattle.joiner.specs.Join.{end_of}
 use Rattle.joiner.specs.Calls.{Calls}
 use Rattle.capture.specs.Answers.{Lent, WholeAnswer, answers_from}
+use Rattle.std.specs.Prelude.{Result}
+use Rattle.text.specs.declared.Refusal.{Refusal}
 
 -- a capture read whole from a fresh start: calls that see as many bytes of what is left as they like, state and a line buffer of 1,024 bytes handed on
 -- from call to call untouched
@@ -22,7 +24,7 @@ pub record Run (c : List ℕ) : Type 0 where
 abbrev pub run_answers : (ℕ → Lent) → (c : List ℕ) → Run c → List WholeAnswer
 run_answers f c r = answers_from f 0 r.lines
 
-abbrev pub run_end : (c : List ℕ) → Run c → End
+abbrev pub run_end : (c : List ℕ) → Run c → Result End Refusal
 run_end c r = end_of r.last
 
 -- how many lines have ended with the end of line e that follows x
