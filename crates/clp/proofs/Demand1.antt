@@ -7,13 +7,9 @@ use mathlib.Core.Bool.{Bool, true, false, cond}
 use native.Mathlib.Omega.{arith}
 use lib.ListN.{length}
 use lib.Dec.{leb, ltb}
-use Rattle.text.specs.declared.Answer.{Answer}
-use Rattle.text.specs.declared.Answer.TheVariants.{Wrote, Refused}
-use Rattle.text.specs.Room.{fitted, filled}
+use Rattle.text.specs.Room.{fitted, filled, refusal_at}
 use Rattle.text.proofs.Writes.{filled_kept}
 use Rattle.terms.specs.Signs.{meant}
-use Rattle.joiner.specs.declared.Outcome.{Outcome}
-use Rattle.joiner.specs.declared.Outcome.TheVariants as outcome
 use Rattle.joiner.specs.Join.{join_of, end_of}
 use Rattle.reading.specs.Reading.{reading_of}
 use Rattle.reading.specs.Records.{answer_in, room_in}
@@ -24,8 +20,6 @@ use Rattle.tree.specs.Resolve.{resolve_of, resolve_list}
 use Rattle.canonical.specs.Canonical.{writing_answer, writing_room}
 use Rattle.wording.specs.Words.{wording_of, text_answer, text_room}
 use Rattle.wording.proofs.Demand1 as wording
-use Rattle.lister.specs.declared.Stands.{Stands}
-use Rattle.lister.specs.declared.Stands.TheVariants as stands
 use Rattle.lister.specs.Lister.{stands_by, fit, joined, refused19, call_of, end_stands, end_room}
 use Rattle.lister.specs.Lister as lister
 use Rattle.lister.proofs.Demand1 as ends
@@ -37,12 +31,15 @@ use Rattle.replying.proofs.Demand1 as replying
 use Rattle.capture.proofs.Demand1 as kept
 use Rattle.clp.specs.State.{state_of}
 use Rattle.clp.specs.Face.{told, none64, answer_of, resolved_of, stands_face, listed_of, no_call, list_face, list_buffer, list_room, list_end_face, list_end_room}
+use Rattle.std.proofs.Common.{Result, Ok, Err}
+use Rattle.text.specs.declared.Refusal.{Refusal}
+use Rattle.std.proofs.Common.{Option, Some, None}
 
 -- ---- functions that answer by a clp_answer
 
-refused_as : (a : Answer) (k : ℕ) → (answer_of a).number ≡ suc k → (p : ℕ) × (a ≡ Refused (suc k) p)
-refused_as (Wrote n) k e = absurd (omega arith)
-refused_as (Refused n p) k e = (p, ap (λ (m : ℕ). Refused m p) e)
+refused_as : (a : Result ℕ Refusal) (k : ℕ) → (answer_of a).number ≡ suc k → (p : ℕ) × (a ≡ Err (refusal_at (suc k) p))
+refused_as (Ok n) k e = absurd (omega arith)
+refused_as (Err r) k e = (r.place, ap (λ (m : ℕ). Err (refusal_at m r.place)) e)
 
 pub read_kept : (room line : List ℕ) (k : ℕ) → (answer_of (answer_in (length room) (reading_of line))).number ≡ suc k → room_in room (reading_of line) ≡ room
 read_kept room line k e = let r = refused_as (answer_in (length room) (reading_of line)) k e in kept.read_kept room (reading_of line) (suc k) r.0 r.1
@@ -73,10 +70,10 @@ reply_value_kept room raw k e = let r = refused_as (value_answer (length room) r
 
 -- ---- resolving
 
-unresolved_as : (v : Resolved) (k : ℕ) → (resolved_of v).number ≡ suc k → (p : ℕ) × (v ≡ resolved.Refused (suc k) p)
-unresolved_as resolved.Session k e = absurd (omega arith)
-unresolved_as (resolved.Nodes n) k e = absurd (omega arith)
-unresolved_as (resolved.Refused n p) k e = (p, ap (λ (m : ℕ). resolved.Refused m p) e)
+unresolved_as : (v : Result Resolved Refusal) (k : ℕ) → (resolved_of v).number ≡ suc k → (p : ℕ) × (v ≡ Err (refusal_at (suc k) p))
+unresolved_as (Ok resolved.Session) k e = absurd (omega arith)
+unresolved_as (Ok (resolved.Nodes n)) k e = absurd (omega arith)
+unresolved_as (Err r) k e = (r.place, ap (λ (m : ℕ). Err (refusal_at m r.place)) e)
 
 pub resolve_kept : (list text t : List ℕ) (d k : ℕ) → (resolved_of (resolve_of (length list) text t d)).number ≡ suc k → resolve_list list text t d ≡ list
 resolve_kept list text t d k e =
@@ -85,10 +82,10 @@ resolve_kept list text t d k e =
 -- ---- the lister
 
 -- what was joined is told as records, or as nothing yet
-joined_told : (o : Outcome) (b : List ℕ) → (stands_face none64 (stands_by o b)).number ≡ 0
-joined_told outcome.More b = refl
-joined_told (outcome.Line n) b = refl
-joined_told (outcome.Refused n p) b = refl
+joined_told : (o : Result (Option ℕ) Refusal) (b : List ℕ) → (stands_face none64 (stands_by o b)).number ≡ 0
+joined_told (Ok None) b = refl
+joined_told (Ok (Some n)) b = refl
+joined_told (Err e) b = refl
 
 pub list_kept : (n : ℕ) (b p room : List ℕ) (k : ℕ) → (list_face n b p room).number ≡ suc k
     → (list_buffer n b p room ≡ b) × (list_room n b p room ≡ room) × ((list_face n b p room).used ≡ 0)
@@ -109,10 +106,10 @@ pub list_end_kept : (n k : ℕ) (room : List ℕ) → (list_end_face n (length r
 unfolding list_end_face list_end_room
 list_end_kept n k room = go (ltb n 16384)
   where
-    by : (w : Stands) → end_stands (length room) (end_of (state_of n)) ≡ w → (stands_face 0 w).number ≡ suc k → end_room room (end_of (state_of n)) ≡ room
-    by stands.Nothing e f = absurd (omega arith)
-    by (stands.Records m) e f = absurd (omega arith)
-    by (stands.Refused m p) e f = ends.end_kept room (end_of (state_of n)) m p e
+    by : (w : Result (Option ℕ) Refusal) → end_stands (length room) (end_of (state_of n)) ≡ w → (stands_face 0 w).number ≡ suc k → end_room room (end_of (state_of n)) ≡ room
+    by (Ok None) e f = absurd (omega arith)
+    by (Ok (Some m)) e f = absurd (omega arith)
+    by (Err r) e f = ends.end_kept room (end_of (state_of n)) r.number r.place e
 
     go : (v : Bool) → (cond v (stands_face 0 (end_stands (length room) (end_of (state_of n)))) (told 19 0)).number ≡ suc k
         → cond v (end_room room (end_of (state_of n))) room ≡ room

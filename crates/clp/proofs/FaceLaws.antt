@@ -1,5 +1,5 @@
 -- What the face's functions are made of, and what it says of a number that is no state's. Assumes nothing.
-use Prim.Native.Nat.{ℕ, ◌+◌, ◌<◌, ◌≤◌}
+use Prim.Native.Nat.{ℕ, ◌<◌, ◌≤◌}
 use mathlib.Core.Path.{◌≡◌, refl, sym, ap, ◌∙◌}
 use mathlib.Core.List.{List}
 use mathlib.Core.Bool.{Bool, true, false, cond, ◌&&◌, true≢false, and-false}
@@ -14,35 +14,16 @@ use Rattle.joiner.specs.Step.{reachable}
 use Rattle.joiner.specs.Join.{Ran, join_of, end_of}
 use Rattle.joiner.proofs.Reach.{to_fine}
 use Rattle.joiner.proofs.Past.{refused_whole, goes_on_lem}
-use Rattle.reading.specs.declared.Span.{Span}
-use Rattle.lister.specs.declared.Stands.{Stands}
 use Rattle.lister.specs.declared.Listed.{Listed}
 use Rattle.lister.specs.Lister as lister
 use Rattle.lister.specs.Lister.{call_of, end_stands, end_room}
 use Rattle.clp.specs.declared.ClpAnswer.{ClpAnswer}
 use Rattle.clp.specs.declared.ClpJoined.{ClpJoined}
-use Rattle.clp.specs.State.{mark, state_number, state_of}
-use Rattle.clp.specs.Face.{told, none64, outcome_of, with, no_call, joined_of, join_face, join_buffer, end_answer, end_face, term, part_face, stands_face, listed_of, list_face, list_buffer, list_room, list_end_face, list_end_room}
+use Rattle.clp.specs.State.{state_number, state_of}
+use Rattle.clp.specs.Face.{told, none64, outcome_of, with, no_call, joined_of, join_face, join_buffer, end_answer, end_face, stands_face, listed_of, list_face, list_buffer, list_room, list_end_face, list_end_room}
 use Rattle.clp.proofs.StateLaws.{number_back}
-
--- ---- parts of an answer
-
-pub number_told : (s : Joiner) (h g r o : ℕ) → h ≡ s.held → g ≡ mark s.grave 2048 → r ≡ mark s.cr 4096 → o ≡ mark s.over 8192
-    → h + g + r + o ≡ state_number s
-unfolding state_number
-number_told s h g r o a b c d = rw (a, b, c, d)
-
-pub told_as : {n n' v v' : ℕ} → n ≡ n' → v ≡ v' → told n v ≡ told n' v'
-told_as a b = cc
-
-pub with_as : (a : ClpAnswer) {u u' n n' : ℕ} → u ≡ u' → n ≡ n' → with a u n ≡ with a u' n'
-with_as a x y = cc
-
-pub term_as : {a a' : ClpAnswer} {n n' : ℕ} → a ≡ a' → n ≡ n' → term a n ≡ term a' n'
-term_as x y = cc
-
-pub part_as : (s : Span) (a n : ℕ) → a ≡ s.at → n ≡ s.len → record { position = a; length = n } ≡ part_face s
-part_as s a n x y = rw (x, y)
+use Rattle.std.proofs.Common.{Result, Option}
+use Rattle.text.specs.declared.Refusal.{Refusal}
 
 -- ---- a number of 16,384 or more
 
@@ -83,7 +64,7 @@ module _ (n : ℕ) (h : 16383 < n) where
 -- ---- a smaller one
 
 module _ (n : ℕ) (h : n ≤ 16383) (s : Joiner) (i : s ≡ state_of n) where
-  pub end_told : (e : End) (r : ClpAnswer) → e ≡ end_of s → r ≡ end_answer e → r ≡ end_face n
+  pub end_told : (e : Result End Refusal) (r : ClpAnswer) → e ≡ end_of s → r ≡ end_answer e → r ≡ end_face n
   unfolding end_face
   end_told e r x y = rw (lt-ltb n 16384 (omega arith)) (y ∙ ap end_answer (x ∙ ap end_of i))
 
@@ -115,7 +96,7 @@ module _ (n : ℕ) (h : n ≤ 16383) (s : Joiner) (i : s ≡ state_of n) where
     unfolding list_room
     list_room_told c x = rw (lt-ltb n 16384 (omega arith)) (x ∙ ap (λ (s : Joiner). (call_of s b p room).room) i)
 
-  pub list_end_told : (k : ℕ) (w : Stands) (r : ClpAnswer) → w ≡ end_stands k (end_of s) → r ≡ stands_face 0 w → r ≡ list_end_face n k
+  pub list_end_told : (k : ℕ) (w : Result (Option ℕ) Refusal) (r : ClpAnswer) → w ≡ end_stands k (end_of s) → r ≡ stands_face 0 w → r ≡ list_end_face n k
   unfolding list_end_face
   list_end_told k w r x y = rw (lt-ltb n 16384 (omega arith)) (y ∙ ap (stands_face 0) (x ∙ ap (λ (s : Joiner). end_stands k (end_of s)) i))
 

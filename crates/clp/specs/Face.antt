@@ -1,22 +1,12 @@
 -- The C face: what each exported function answers, in numbers. Number 0 and a value, or a refusal's number and its place.
-use Rattle.std.specs.Prelude.{ℕ, List, cond, ltb}
-use Rattle.text.specs.declared.Answer.{Answer}
-use Rattle.text.specs.declared.Answer.TheVariants as answer
+use Rattle.std.specs.Prelude.{ℕ, List, cond, ltb, Result, Ok, Err}
 use Rattle.joiner.specs.declared.Joined.{Joined}
-use Rattle.joiner.specs.declared.Outcome.{Outcome}
-use Rattle.joiner.specs.declared.Outcome.TheVariants as outcome
 use Rattle.joiner.specs.declared.End.{End}
 use Rattle.joiner.specs.declared.End.TheVariants as end'
 use Rattle.joiner.specs.Join.{join_of, end_of}
-use Rattle.carried.specs.declared.Yielded.{Yielded}
-use Rattle.carried.specs.declared.Yielded.TheVariants as yielded
-use Rattle.tree.specs.declared.Checked.{Checked}
-use Rattle.tree.specs.declared.Checked.TheVariants as checked
 use Rattle.tree.specs.declared.Resolved.{Resolved}
 use Rattle.tree.specs.declared.Resolved.TheVariants as resolved
-use Rattle.reading.specs.declared.Span.{Span}
-use Rattle.lister.specs.declared.Stands.{Stands}
-use Rattle.lister.specs.declared.Stands.TheVariants as stands
+use Rattle.terms.specs.declared.Span.{Span}
 use Rattle.lister.specs.declared.Listed.{Listed}
 use Rattle.lister.specs.Lister.{call_of, end_stands, end_room}
 use Rattle.clp.specs.declared.ClpAnswer.{ClpAnswer}
@@ -24,6 +14,8 @@ use Rattle.clp.specs.declared.ClpJoined.{ClpJoined}
 use Rattle.clp.specs.declared.ClpTerm.{ClpTerm}
 use Rattle.clp.specs.declared.ClpPart.{ClpPart}
 use Rattle.clp.specs.State.{state_number, state_of}
+use Rattle.text.specs.declared.Refusal.{Refusal}
+use Rattle.std.specs.Prelude.{Option, Some, None}
 
 abbrev pub told : ℕ → ℕ → ClpAnswer
 told n v = record { number = n; value = v }
@@ -34,16 +26,20 @@ none64 = 18446744073709551615
 
 -- ---- a function that writes: how many bytes, or the refusal
 
-abbrev pub answer_of : Answer → ClpAnswer
-answer_of (answer.Wrote n) = told 0 n
-answer_of (answer.Refused n p) = told n p
+abbrev pub answer_of : Result ℕ Refusal → ClpAnswer
+answer_of (Ok n) = told 0 n
+answer_of (Err e) = told e.number e.place
 
 -- ---- joining
 
-abbrev pub outcome_of : Outcome → ClpAnswer
-outcome_of outcome.More = told 0 none64
-outcome_of (outcome.Line n) = told 0 n
-outcome_of (outcome.Refused n p) = told n p
+-- so many bytes of a line or of records, or `none` where there are none
+abbrev pub stands_face : ℕ → Result (Option ℕ) Refusal → ClpAnswer
+stands_face none (Ok None) = told 0 none
+stands_face none (Ok (Some n)) = told 0 n
+stands_face none (Err e) = told e.number e.place
+
+abbrev pub outcome_of : Result (Option ℕ) Refusal → ClpAnswer
+outcome_of o = stands_face none64 o
 
 -- an answer, how many bytes were used, and the state's number
 abbrev pub with : ClpAnswer → ℕ → ℕ → ClpJoined
@@ -62,10 +58,10 @@ join_face n buffer part = cond (ltb n 16384) (joined_of (join_of (state_of n) bu
 unfoldable pub join_buffer : ℕ → List ℕ → List ℕ → List ℕ
 join_buffer n buffer part = cond (ltb n 16384) (join_of (state_of n) buffer part).buffer buffer
 
-abbrev pub end_answer : End → ClpAnswer
-end_answer end'.Nothing = told 0 0
-end_answer end'.Cut = told 0 1
-end_answer (end'.Refused n p) = told n p
+abbrev pub end_answer : Result End Refusal → ClpAnswer
+end_answer (Ok end'.Nothing) = told 0 0
+end_answer (Ok end'.Cut) = told 0 1
+end_answer (Err e) = told e.number e.place
 
 unfoldable pub end_face : ℕ → ClpAnswer
 end_face n = cond (ltb n 16384) (end_answer (end_of (state_of n))) (told 19 0)
@@ -76,23 +72,23 @@ end_face n = cond (ltb n 16384) (end_answer (end_of (state_of n))) (told 19 0)
 abbrev pub term : ClpAnswer → ℕ → ClpTerm
 term a n = record { number = a.number; value = a.value; length = n }
 
-abbrev pub term_of : Yielded → ClpTerm
-term_of (yielded.Term a n) = term (told 0 a) n
-term_of yielded.Nothing = term (told 0 none64) 0
-term_of (yielded.Refused n p) = term (told n p) 0
+abbrev pub term_of : Result (Option Span) Refusal → ClpTerm
+term_of (Ok (Some e)) = term (told 0 e.at) e.len
+term_of (Ok None) = term (told 0 none64) 0
+term_of (Err e) = term (told e.number e.place) 0
 
 -- ---- the check of a tree: 15 at the first bad record
 
-abbrev pub checked_of : Checked → ClpAnswer
-checked_of checked.Good = told 0 0
-checked_of (checked.Bad p) = told 15 p
+abbrev pub checked_of : Result Unit ℕ → ClpAnswer
+checked_of (Ok u) = told 0 0
+checked_of (Err p) = told 15 p
 
 -- ---- resolving: how many nodes, or the value that is no length for a session
 
-abbrev pub resolved_of : Resolved → ClpAnswer
-resolved_of resolved.Session = told 0 none64
-resolved_of (resolved.Nodes n) = told 0 n
-resolved_of (resolved.Refused n p) = told n p
+abbrev pub resolved_of : Result Resolved Refusal → ClpAnswer
+resolved_of (Ok resolved.Session) = told 0 none64
+resolved_of (Ok (resolved.Nodes n)) = told 0 n
+resolved_of (Err e) = told e.number e.place
 
 -- ---- a part of a line
 
@@ -100,11 +96,6 @@ abbrev pub part_face : Span → ClpPart
 part_face s = record { position = s.at; length = s.len }
 
 -- ---- a lister: how many bytes of records stand in the room, or the value that is no length
-
-abbrev pub stands_face : ℕ → Stands → ClpAnswer
-stands_face none stands.Nothing = told 0 none
-stands_face none (stands.Records n) = told 0 n
-stands_face none (stands.Refused n p) = told n p
 
 abbrev pub listed_of : Listed → ClpJoined
 listed_of l = with (stands_face none64 l.stands) l.used (state_number l.state)

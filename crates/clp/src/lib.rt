@@ -16,14 +16,13 @@ ghost use Rattle.replies.specs.Reading.{read_answer, read_room};
 ghost use Rattle.replies.specs.Items.{value_answer, value_room};
 ghost use Rattle.replying.specs.Writing.{write_answer, write_room};
 ghost use Rattle.clp.specs.State.{mark, state_number, state_of};
-ghost use Rattle.clp.specs.Face.{told, answer_of, outcome_of, with, no_call, join_face, join_buffer, end_answer, end_face, term, term_of, checked_of, resolved_of, part_face, stands_face, list_face, list_buffer, list_room, list_end_face, list_end_room};
+ghost use Rattle.clp.specs.Face.{told, answer_of, with, no_call, join_face, join_buffer, end_answer, end_face, term, term_of, checked_of, resolved_of, part_face, stands_face, list_face, list_buffer, list_room, list_end_face, list_end_room};
 
-use carried::{Yielded, yield_at};
-use joiner::{End, Joiner, Outcome};
-use lister::Stands;
-use reading::Span;
-use text::Answer;
-use tree::{Checked, Resolved};
+use carried::yield_at;
+use joiner::{End, Joiner};
+use terms::Span;
+use text::Refusal;
+use tree::Resolved;
 
 // What every function answers: number 0 and a value, or a refusal's number and its place.
 #[repr(C)]
@@ -63,19 +62,7 @@ pub struct ClpPart {
 // The value that is no length.
 const NONE: u64 = 18446744073709551615;
 
-// ---- numbers
-
-fn wide(n: usize) -> u64
-    ensures { result ≡ n }
-{
-    n as u64
-}
-
-fn wide_byte(n: u8) -> u64
-    ensures { result ≡ n }
-{
-    n as u64
-}
+// ---- answers
 
 fn gives(value: u64) -> ClpAnswer
     ensures { result ≡ told 0 value }
@@ -84,22 +71,86 @@ fn gives(value: u64) -> ClpAnswer
 }
 
 // A refusal: its number and its place.
-fn refused(number: u8, place: usize) -> ClpAnswer
-    ensures { result ≡ told number place }
-{
-    ClpAnswer {
-        number: wide_byte(number),
-        value: wide(place),
+impl From<Refusal> for ClpAnswer {
+    fn from(flaw: Refusal) -> Self
+        ensures { result ≡ told flaw.number flaw.place }
+    {
+        ClpAnswer {
+            number: u64::from(flaw.number),
+            value: flaw.place as u64,
+        }
     }
 }
 
-fn answer_of(a: Answer) -> ClpAnswer
-    ensures { result ≡ answer_of a }
-{
-    match a {
-        Answer::Wrote(n) => gives(wide(n)),
-        Answer::Refused { number, place } => refused(number, place),
+// How many bytes a function wrote, or its refusal.
+impl From<Result<usize, Refusal>> for ClpAnswer {
+    fn from(written: Result<usize, Refusal>) -> Self
+        ensures { result ≡ answer_of written }
+    {
+        match written {
+            Ok(n) => gives(n as u64),
+            Err(flaw) => ClpAnswer::from(flaw),
+        }
     }
+}
+
+// What is at the end of a capture, or the refusal.
+impl From<Result<End, Refusal>> for ClpAnswer {
+    fn from(end: Result<End, Refusal>) -> Self
+        ensures { result ≡ end_answer end }
+    {
+        match end {
+            Ok(End::Nothing) => gives(0),
+            Ok(End::Cut) => gives(1),
+            Err(flaw) => ClpAnswer::from(flaw),
+        }
+    }
+}
+
+// The instances that a target addresses, or the refusal.
+impl From<Result<Resolved, Refusal>> for ClpAnswer {
+    fn from(resolved: Result<Resolved, Refusal>) -> Self
+        ensures { result ≡ resolved_of resolved }
+    {
+        match resolved {
+            Ok(Resolved::Session) => gives(NONE),
+            Ok(Resolved::Nodes(n)) => gives(n as u64),
+            Err(flaw) => ClpAnswer::from(flaw),
+        }
+    }
+}
+
+// The check of a tree, or the place of its first bad record, which is refused as 15.
+impl From<Result<(), usize>> for ClpAnswer {
+    fn from(checked: Result<(), usize>) -> Self
+        ensures { result ≡ checked_of checked }
+    {
+        match checked {
+            Ok(()) => gives(0),
+            Err(place) => ClpAnswer::from(Refusal { number: 15, place }),
+        }
+    }
+}
+
+// How many bytes a line or its records have, or the refusal; `none` where there are none.
+fn some_of(none: u64, given: Result<Option<usize>, Refusal>) -> ClpAnswer
+    ensures { result ≡ stands_face none given }
+{
+    match given {
+        Ok(Some(n)) => gives(n as u64),
+        Ok(None) => gives(none),
+        Err(flaw) => ClpAnswer::from(flaw),
+    }
+}
+
+// A call that is not to be: its room or its state is none.
+fn no_answer() -> ClpAnswer
+    ensures { result ≡ told 19 0 }
+{
+    ClpAnswer::from(Refusal {
+        number: 19,
+        place: 0,
+    })
 }
 
 // ---- the joiner's state as a number
@@ -114,11 +165,12 @@ fn mark(flag: bool, weight: u64) -> u64
     0
 }
 
+#[tactic(auto, unfolding(crate::specs::State::state_number))]
 fn number_of(s: Joiner) -> u64
     requires { s.held < 2048 }
     ensures { result ≡ state_number s }
 {
-    wide(s.held) + mark(s.grave, 2048) + mark(s.cr, 4096) + mark(s.over, 8192)
+    s.held as u64 + mark(s.grave, 2048) + mark(s.cr, 4096) + mark(s.over, 8192)
 }
 
 fn state_of(n: u64) -> Joiner
@@ -132,16 +184,6 @@ fn state_of(n: u64) -> Joiner
     }
 }
 
-fn outcome_of(o: Outcome) -> ClpAnswer
-    ensures { result ≡ outcome_of o }
-{
-    match o {
-        Outcome::More => gives(NONE),
-        Outcome::Line(n) => gives(wide(n)),
-        Outcome::Refused { number, place } => refused(number, place),
-    }
-}
-
 // An answer with the bytes used and the state.
 fn joined(a: ClpAnswer, used: usize, s: Joiner) -> ClpJoined
     requires { s.held < 2048 }
@@ -150,7 +192,7 @@ fn joined(a: ClpAnswer, used: usize, s: Joiner) -> ClpJoined
     ClpJoined {
         number: a.number,
         value: a.value,
-        used: wide(used),
+        used: used as u64,
         state: number_of(s),
     }
 }
@@ -167,16 +209,6 @@ fn no_call(state: u64) -> ClpJoined
     }
 }
 
-fn end_of(e: End) -> ClpAnswer
-    ensures { result ≡ end_answer e }
-{
-    match e {
-        End::Nothing => gives(0),
-        End::Cut => gives(1),
-        End::Refused { number, place } => refused(number, place),
-    }
-}
-
 // Joins a part of a capture.
 pub fn clp_join(state: u64, buffer: &mut [u8], part: &[u8]) -> ClpJoined
     ensures value { result ≡ join_face state buffer.old part.now }
@@ -186,9 +218,7 @@ pub fn clp_join(state: u64, buffer: &mut [u8], part: &[u8]) -> ClpJoined
         return no_call(state);
     }
     let j = state_of(state).join(buffer, part);
-    let o = j.outcome;
-    let s = j.state;
-    joined(outcome_of(o), j.used, s)
+    joined(some_of(NONE, j.outcome), j.used, j.state)
 }
 
 // The end of a capture.
@@ -196,9 +226,9 @@ pub fn clp_end(state: u64) -> ClpAnswer
     ensures { result ≡ end_face state }
 {
     if 16383 < state {
-        return refused(19, 0);
+        return no_answer();
     }
-    end_of(state_of(state).end())
+    ClpAnswer::from(state_of(state).end())
 }
 
 // ---- reading
@@ -208,15 +238,15 @@ pub fn clp_read(line: &[u8], room: &mut [u8]) -> ClpAnswer
     ensures value { result ≡ answer_of (answer_in (length room.old) (reading_of line.now)) }
     ensures room_after { room.new ≡ room_in room.old (reading_of line.now) }
 {
-    answer_of(reading::read(line, room))
+    ClpAnswer::from(reading::read(line, room))
 }
 
 fn part_of(s: Span) -> ClpPart
     ensures { result ≡ part_face s }
 {
     ClpPart {
-        position: wide(s.at),
-        length: wide(s.len),
+        position: s.at as u64,
+        length: s.len as u64,
     }
 }
 
@@ -236,17 +266,17 @@ fn term(a: ClpAnswer, length: usize) -> ClpTerm
     ClpTerm {
         number: a.number,
         value: a.value,
-        length: wide(length),
+        length: length as u64,
     }
 }
 
-fn term_of(y: Yielded) -> ClpTerm
-    ensures { result ≡ term_of y }
+fn term_of(yielded: Result<Option<Span>, Refusal>) -> ClpTerm
+    ensures { result ≡ term_of yielded }
 {
-    match y {
-        Yielded::Term { start, len } => term(gives(wide(start)), len),
-        Yielded::Nothing => term(gives(NONE), 0),
-        Yielded::Refused { number, place } => term(refused(number, place), 0),
+    match yielded {
+        Ok(Some(found)) => term(gives(found.at as u64), found.len),
+        Ok(None) => term(gives(NONE), 0),
+        Err(flaw) => term(ClpAnswer::from(flaw), 0),
     }
 }
 
@@ -262,7 +292,7 @@ pub fn clp_canonical(line: &[u8], room: &mut [u8]) -> ClpAnswer
     ensures value { result ≡ answer_of (writing_answer (length room.old) (reading_of line.now)) }
     ensures room_after { room.new ≡ writing_room room.old (reading_of line.now) }
 {
-    answer_of(canonical::canonical(line, room))
+    ClpAnswer::from(canonical::canonical(line, room))
 }
 
 // Writes the bytes that a text stands for: quote marks taken out, each escaped byte for its pair.
@@ -270,35 +300,16 @@ pub fn clp_meant(text: &[u8], room: &mut [u8]) -> ClpAnswer
     ensures value { result ≡ answer_of (fitted (length room.old) (meant text.now)) }
     ensures room_after { room.new ≡ filled room.old (meant text.now) }
 {
-    answer_of(terms::write_meant(text, room))
+    ClpAnswer::from(terms::write_meant(text, room))
 }
 
 // ---- the tree
-
-fn checked_of(c: Checked) -> ClpAnswer
-    ensures { result ≡ checked_of c }
-{
-    match c {
-        Checked::Good => gives(0),
-        Checked::Bad(p) => refused(15, p),
-    }
-}
 
 // Checks a tree.
 pub fn clp_check_tree(tree: &[u8]) -> ClpAnswer
     ensures { result ≡ checked_of (check_tree tree.now) }
 {
-    checked_of(tree::check(tree))
-}
-
-fn resolved_of(r: Resolved) -> ClpAnswer
-    ensures { result ≡ resolved_of r }
-{
-    match r {
-        Resolved::Session => gives(NONE),
-        Resolved::Nodes(n) => gives(wide(n)),
-        Resolved::Refused { number, place } => refused(number, place),
-    }
+    ClpAnswer::from(tree::check(tree))
 }
 
 // The instances that a target's text addresses from a default target.
@@ -306,7 +317,7 @@ pub fn clp_resolve(text: &[u8], tree: &[u8], default: usize, list: &mut [u16]) -
     ensures value { result ≡ resolved_of (resolve_of (length list.old) text.now tree.now default) }
     ensures list_after { list.new ≡ resolve_list list.old text.now tree.now default }
 {
-    resolved_of(tree::resolve(text, tree, default, list))
+    ClpAnswer::from(tree::resolve(text, tree, default, list))
 }
 
 // Writes the full path of a node.
@@ -314,7 +325,7 @@ pub fn clp_full_path(tree: &[u8], node: usize, room: &mut [u8]) -> ClpAnswer
     ensures value { result ≡ answer_of (path_answer (length room.old) tree.now node) }
     ensures room_after { room.new ≡ path_room room.old tree.now node }
 {
-    answer_of(tree::full_path(tree, node, room))
+    ClpAnswer::from(tree::full_path(tree, node, room))
 }
 
 // ---- replies
@@ -324,7 +335,7 @@ pub fn clp_read_reply(reply: &[u8], room: &mut [u8]) -> ClpAnswer
     ensures value { result ≡ answer_of (read_answer (length room.old) reply.now) }
     ensures room_after { room.new ≡ read_room room.old reply.now }
 {
-    answer_of(replies::read(reply, room))
+    ClpAnswer::from(replies::read(reply, room))
 }
 
 // Writes the items that records name in a text, as a reply.
@@ -332,7 +343,7 @@ pub fn clp_write_reply(records: &[u8], text: &[u8], room: &mut [u8]) -> ClpAnswe
     ensures value { result ≡ answer_of (write_answer (length room.old) records.now text.now) }
     ensures room_after { room.new ≡ write_room room.old records.now text.now }
 {
-    answer_of(replying::write(records, text, room))
+    ClpAnswer::from(replying::write(records, text, room))
 }
 
 // Writes the bytes that a value, as a reply has it, stands for.
@@ -340,7 +351,7 @@ pub fn clp_reply_value(raw: &[u8], room: &mut [u8]) -> ClpAnswer
     ensures value { result ≡ answer_of (value_answer (length room.old) raw.now) }
     ensures room_after { room.new ≡ value_room room.old raw.now }
 {
-    answer_of(replies::value(raw, room))
+    ClpAnswer::from(replies::value(raw, room))
 }
 
 // ---- a lister
@@ -350,18 +361,7 @@ pub fn clp_records_text(records: &[u8], room: &mut [u8]) -> ClpAnswer
     ensures value { result ≡ answer_of (text_answer (length room.old) (wording_of records.now)) }
     ensures room_after { room.new ≡ text_room room.old (wording_of records.now) }
 {
-    answer_of(wording::records_text(records, room))
-}
-
-// What stands in the room: so many bytes of records; `none` where there are none.
-fn stands_of(none: u64, s: Stands) -> ClpAnswer
-    ensures { result ≡ stands_face none s }
-{
-    match s {
-        Stands::Nothing => gives(none),
-        Stands::Records(n) => gives(wide(n)),
-        Stands::Refused { number, place } => refused(number, place),
-    }
+    ClpAnswer::from(wording::records_text(records, room))
 }
 
 // Joins a part of a capture, and writes the records of the line that it ended.
@@ -374,9 +374,7 @@ pub fn clp_list(state: u64, buffer: &mut [u8], part: &[u8], room: &mut [u8]) -> 
         return no_call(state);
     }
     let l = lister::next_answer(state_of(state), buffer, part, room);
-    let w = l.stands;
-    let s = l.state;
-    joined(stands_of(NONE, w), l.used, s)
+    joined(some_of(NONE, l.stands), l.used, l.state)
 }
 
 // Writes the record that the end of a capture is.
@@ -385,7 +383,7 @@ pub fn clp_list_end(state: u64, room: &mut [u8]) -> ClpAnswer
     ensures room_after { room.new ≡ list_end_room state room.old }
 {
     if 16383 < state {
-        return refused(19, 0);
+        return no_answer();
     }
-    stands_of(0, lister::end_answer(state_of(state), room))
+    some_of(0, lister::end_answer(state_of(state), room))
 }

@@ -10,7 +10,7 @@ joined-requires c = join_low _ c.state_of.result _ _ c.join-j.result c.state_of.
 
 pub returns : goal.returns
 returns c = let h = c.if-state-gt16383.false in record {
-  value = join_told _ h c.state_of.result c.state_of.ensures _ _ c.join-j.result c.outcome_of.result _ c.join-j.ensures.value
-      c.outcome_of.ensures c.joined.ensures;
+  value = join_told _ h c.state_of.result c.state_of.ensures _ _ c.join-j.result c.some_of.result _ c.join-j.ensures.value
+      c.some_of.ensures c.joined.ensures;
   buffer_after = buffer_told _ h c.state_of.result c.state_of.ensures _ _ _ c.join-j.ensures.buffer_after;
 }

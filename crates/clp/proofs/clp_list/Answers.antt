@@ -11,7 +11,7 @@ joined-requires c = list_low _ c.state_of.result _ _ _ c.next_answer-l.result c.
 
 pub returns : goal.returns
 returns c = let h = c.if-state-gt16383.false in
-    let w = c.stands_of in record {
+    let w = c.some_of in record {
       value = list_told _ h c.state_of.result c.state_of.ensures _ _ _ c.next_answer-l.result w.result _ c.next_answer-l.ensures.value w.ensures
           c.joined.ensures;
       buffer_after = list_buffer_told _ h c.state_of.result c.state_of.ensures _ _ _ _ c.next_answer-l.ensures.buffer_after;

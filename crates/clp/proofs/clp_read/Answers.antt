@@ -3,4 +3,4 @@ use Rattle.clp.specs.Face.{answer_of}
 use Rattle.clp.proofs.clp_read.Goals as goal
 
 pub returns : goal.returns
-returns c = record { value = c.answer_of.ensures ∙ ap answer_of c.read.ensures.0; room_after = c.read.ensures.1 }
+returns c = record { value = c.from.ensures ∙ ap answer_of c.read.ensures.0; room_after = c.read.ensures.1 }

@@ -5,4 +5,4 @@ use Rattle.clp.proofs.clp_read_reply.Goals as goal
 
 pub returns : goal.returns
 returns c =
-    record { value = c.answer_of.ensures ∙ ap answer_of c.read.ensures.0; room_after = c.read.ensures.1 }
+    record { value = c.from.ensures ∙ ap answer_of c.read.ensures.0; room_after = c.read.ensures.1 }

@@ -5,4 +5,4 @@ use Rattle.clp.proofs.clp_reply_value.Goals as goal
 
 pub returns : goal.returns
 returns c =
-    record { value = c.answer_of.ensures ∙ ap answer_of c.value.ensures.0; room_after = c.value.ensures.1 }
+    record { value = c.from.ensures ∙ ap answer_of c.value.ensures.0; room_after = c.value.ensures.1 }

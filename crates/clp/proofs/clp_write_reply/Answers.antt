@@ -5,4 +5,4 @@ use Rattle.clp.proofs.clp_write_reply.Goals as goal
 
 pub returns : goal.returns
 returns c =
-    record { value = c.answer_of.ensures ∙ ap answer_of c.write.ensures.0; room_after = c.write.ensures.1 }
+    record { value = c.from.ensures ∙ ap answer_of c.write.ensures.0; room_after = c.write.ensures.1 }
