@@ -2,152 +2,65 @@
 // it says so on standard error, with the number of lines explained, and ends. Asked by an argument, it says what it is instead.
 #![tactic(auto)]
 
-ghost use Rattle.std.specs.Prelude.{◌≡◌, true, length};
+ghost use Rattle.std.specs.Prelude.{◌≡◌, true};
 ghost use Rattle.joiner.specs.Step.{reachable};
 ghost use Rattle.lister.specs.Listing.{Sane};
 
-use console::{Got, asks, count_words, no_failure, read_some, tell, works, write_answer};
+use console::{Made, Work, asks, count_words, work_through, works};
 use explaining::{explain, explain_cut, explain_refusal};
-use joiner::{End, Joiner, Outcome};
-use std::io::Read;
-use std::rt::{Clock, Env};
-use text::Answer;
+use joiner::{End, Joiner};
+use std::rt::Env;
+use text::Refusal;
 
-// What is under way: the joiner's state, how many lines' text has been written, and whether reading and writing still work.
+// What is under way: the joiner's state, such as some capture leads to, and its line buffer.
 #[derive(Clone, Copy)]
-struct Run {
+struct Explaining {
     state: Joiner,
-    explained: u64,
-    open: bool,
+    line: [u8; 1024],
+    ghost reached: { reachable state ≡ true },
 }
 
-// Says on standard error that a state was refused, which no capture leads to.
-fn refused() {
-    io::write_all(2, b"clpexplain: explaining was refused\n");
+impl Explaining {
+    fn new() -> Self {
+        Explaining {
+            state: Joiner::new(),
+            line: [0; 1024],
+        }
+    }
 }
 
 // The text of what a call of the joiner gave, at the start of the room for it; none where no line ended.
-fn put_outcome(o: Outcome, line: &[u8], text: &mut [u8]) -> Answer
-    requires { Sane o line.now }
-{
-    match o {
-        Outcome::More => Answer::Wrote(0),
-        Outcome::Line(n) => explain(&line[..n], text),
-        Outcome::Refused { number, place } => explain_refusal(line, number, place as u16, text),
-    }
-}
-
-// How many lines a call of the joiner ended.
-fn lines_in(o: Outcome) -> u64 {
-    match o {
-        Outcome::More => 0,
-        Outcome::Line(_) => 1,
-        Outcome::Refused {
-            number: _,
-            place: _,
-        } => 1,
-    }
-}
-
-// Explains the lines that end in a part of the capture, and writes the text of each; fewer only where writing fails.
-fn feed(rt: &(impl Print + Clock), run: Run, line: &mut [u8], part: &[u8], text: &mut [u8]) -> Run
-    requires line_len { length line.old ≡ 1024 }
-    requires state_value { reachable run.state ≡ true }
-    ensures { reachable result.state ≡ true }
-{
-    let mut state = run.state;
-    let mut explained = run.explained;
-    let mut at: usize = 0;
-    let mut why = no_failure();
-    while at < part.len() {
-        let j = state.join(line, &part[at..]);
-        state = j.state;
-        let used = j.used;
-        let o = j.outcome;
-        at += used;
-        let a = put_outcome(o, line, text);
-        if !write_answer(rt, a, text, &mut why) {
-            tell(b"clpexplain: writing failed after ", explained, &why);
-            return Run {
-                state,
-                explained,
-                open: false,
-            };
-        }
-        explained = std::num::wrapping_add_u64(explained, lines_in(o));
-    }
-    Run {
-        state,
-        explained,
-        open: true,
-    }
-}
-
-// Reads and explains to the end of the input, or until reading or writing fails.
-fn explain_all(
-    rt: &(impl Print + Clock),
-    input: &mut impl Read,
-    line: &mut [u8],
+fn put_outcome(
+    outcome: Result<Option<usize>, Refusal>,
+    line: &[u8],
     text: &mut [u8],
-) -> Run
-    requires { length line.old ≡ 1024 }
+) -> Result<usize, Refusal>
+    requires { Sane outcome line.now }
 {
-    let mut run = Run {
-        state: Joiner::new(),
-        explained: 0,
-        open: true,
-    };
-    let mut bytes = io::large_buffer();
-    let mut why = no_failure();
-    let mut turns = u64::MAX;
-    while turns > 0 {
-        turns -= 1;
-        let got = read_some(rt, input, &mut bytes, &mut why);
-        match got {
-            Got::Failed => {
-                tell(b"clpexplain: reading failed after ", run.explained, &why);
-                run.open = false;
-                return run;
-            }
-            Got::End => return run,
-            Got::Bytes(n) => {
-                run = feed(rt, run, line, &bytes[..n], text);
-                if !run.open {
-                    return run;
-                }
-            }
-        }
-    }
-    run
-}
-
-// Writes what the end of the capture says.
-fn finish(rt: &(impl Print + Clock), run: Run, text: &mut [u8]) {
-    let state = run.state;
-    let mut why = no_failure();
-    let e = state.end();
-    match e {
-        End::Nothing => {}
-        End::Cut => {
-            let a = explain_cut(text);
-            if !write_answer(rt, a, text, &mut why) {
-                tell(b"clpexplain: writing failed after ", run.explained, &why);
-            }
-        }
-        End::Refused {
-            number: _,
-            place: _,
-        } => refused(),
+    match outcome {
+        Ok(None) => Ok(0),
+        Ok(Some(n)) => explain(&line[..n], text),
+        Err(flaw) => explain_refusal(line, flaw.number, flaw.place as u16, text),
     }
 }
 
-// Explains standard input.
-fn explain_input(rt: &(impl Print + Clock), input: &mut impl Read) {
-    let mut line = [0u8; 1024];
-    let mut text = io::large_buffer();
-    let run = explain_all(rt, input, &mut line, &mut text);
-    if run.open {
-        finish(rt, run, &mut text);
+impl Work for Explaining {
+    fn take(&mut self, part: &[u8], text: &mut [u8; 65536]) -> Made {
+        let joined = self.state.join(&mut self.line, part);
+        self.state = joined.state;
+        let outcome = joined.outcome;
+        Made {
+            used: joined.used,
+            lines: if let Ok(None) = outcome { 0 } else { 1 },
+            answer: put_outcome(outcome, &self.line, text),
+        }
+    }
+
+    fn end(&mut self, text: &mut [u8; 65536]) -> Option<Result<usize, Refusal>> {
+        match self.state.end().ok()? {
+            End::Nothing => Some(Ok(0)),
+            End::Cut => Some(explain_cut(text)),
+        }
     }
 }
 
@@ -163,6 +76,13 @@ fn main(rt: HostRuntime) {
         b"clpexplain: it takes --help or --version, or no argument and a capture on standard input\n",
         b"clpexplain: writing failed after ",
     ) {
-        explain_input(&rt, &mut rt.stdin());
+        work_through(
+            &rt,
+            &mut rt.stdin(),
+            &mut Explaining::new(),
+            b"clpexplain: reading failed after ",
+            b"clpexplain: writing failed after ",
+            b"clpexplain: explaining was refused\n",
+        );
     }
 }

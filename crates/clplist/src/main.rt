@@ -2,132 +2,51 @@
 // standard error, with the number of lines listed, and ends. Asked by an argument, it says what it is instead.
 #![tactic(auto)]
 
-ghost use Rattle.std.specs.Prelude.{◌≡◌, ◌≤◌, true, length};
+ghost use Rattle.std.specs.Prelude.{◌≡◌, true};
 ghost use Rattle.lister.specs.Lister.{fit};
-ghost use Rattle.printing.specs.Printing.{longest};
 
-use console::{Got, asks, count_words, no_failure, read_some, tell, works, write_answer};
+use console::{Made, Work, asks, count_words, work_through, works};
 use joiner::Joiner;
-use lister::{Stands, end_answer};
+use lister::end_answer;
 use printing::print_part;
-use std::io::Read;
-use std::rt::{Clock, Env};
+use std::rt::Env;
+use text::Refusal;
 use wording::records_text;
 
-// What is under way: the joiner's state, how many lines' text has been written, and whether reading and writing still work.
+// What is under way: the joiner's state and its line buffer, such as some capture leads to.
 #[derive(Clone, Copy)]
-struct Run {
+struct Listing {
     state: Joiner,
-    listed: u64,
-    open: bool,
+    line: [u8; 1024],
+    ghost fits: { fit state line ≡ true },
 }
 
-// Says on standard error that a state was refused, which no capture leads to.
-fn refused() {
-    io::write_all(2, b"clplist: listing was refused\n");
-}
-
-// Lists all of a part of the capture, and writes its text, call after call; less only where writing fails.
-fn feed(rt: &(impl Print + Clock), run: Run, line: &mut [u8], part: &[u8], text: &mut [u8]) -> Run
-    requires line_value { fit run.state line.old ≡ true }
-    requires longest_in_bounds { longest ≤ length text.old }
-    ensures { fit result.state line.new ≡ true }
-{
-    let mut state = run.state;
-    let mut listed = run.listed;
-    let mut at: usize = 0;
-    let mut why = no_failure();
-    while at < part.len() {
-        let p = print_part(state, line, &part[at..], text);
-        state = p.state;
-        let used = p.used;
-        let lines = p.lines;
-        let a = p.answer;
-        at += used;
-        if !write_answer(rt, a, text, &mut why) {
-            tell(b"clplist: writing failed after ", listed, &why);
-            return Run {
-                state,
-                listed,
-                open: false,
-            };
-        }
-        listed = std::num::wrapping_add_u64(listed, lines as u64);
-    }
-    Run {
-        state,
-        listed,
-        open: true,
-    }
-}
-
-// Reads and lists to the end of the input, or until reading or writing fails.
-fn list_all(
-    rt: &(impl Print + Clock),
-    input: &mut impl Read,
-    line: &mut [u8],
-    text: &mut [u8],
-) -> Run
-    requires line_len { length line.old ≡ 1024 }
-    requires longest_in_bounds { longest ≤ length text.old }
-{
-    let mut run = Run {
-        state: Joiner::new(),
-        listed: 0,
-        open: true,
-    };
-    let mut bytes = io::large_buffer();
-    let mut why = no_failure();
-    let mut turns = u64::MAX;
-    while turns > 0 {
-        turns -= 1;
-        let got = read_some(rt, input, &mut bytes, &mut why);
-        match got {
-            Got::Failed => {
-                tell(b"clplist: reading failed after ", run.listed, &why);
-                run.open = false;
-                return run;
-            }
-            Got::End => return run,
-            Got::Bytes(n) => {
-                run = feed(rt, run, line, &bytes[..n], text);
-                if !run.open {
-                    return run;
-                }
-            }
+impl Listing {
+    fn new() -> Self {
+        Listing {
+            state: Joiner::new(),
+            line: [0; 1024],
         }
     }
-    run
 }
 
-// Writes what the end of the capture says.
-fn finish(rt: &(impl Print + Clock), run: Run, text: &mut [u8]) {
-    let mut room = [0u8; 399];
-    let state = run.state;
-    let mut why = no_failure();
-    let s = end_answer(state, &mut room);
-    match s {
-        Stands::Nothing => {}
-        Stands::Records(k) => {
-            let a = records_text(&room[..k], text);
-            if !write_answer(rt, a, text, &mut why) {
-                tell(b"clplist: writing failed after ", run.listed, &why);
-            }
+impl Work for Listing {
+    fn take(&mut self, part: &[u8], text: &mut [u8; 65536]) -> Made {
+        let printed = print_part(self.state, &mut self.line, part, text);
+        self.state = printed.state;
+        Made {
+            used: printed.used,
+            lines: printed.lines,
+            answer: printed.answer,
         }
-        Stands::Refused {
-            number: _,
-            place: _,
-        } => refused(),
     }
-}
 
-// Lists standard input.
-fn list(rt: &(impl Print + Clock), input: &mut impl Read) {
-    let mut line = [0u8; 1024];
-    let mut text = io::large_buffer();
-    let run = list_all(rt, input, &mut line, &mut text);
-    if run.open {
-        finish(rt, run, &mut text);
+    fn end(&mut self, text: &mut [u8; 65536]) -> Option<Result<usize, Refusal>> {
+        let mut room = [0u8; 399];
+        match end_answer(self.state, &mut room).ok()? {
+            None => Some(Ok(0)),
+            Some(n) => Some(records_text(&room[..n], text)),
+        }
     }
 }
 
@@ -143,6 +62,13 @@ fn main(rt: HostRuntime) {
         b"clplist: it takes --help or --version, or no argument and a capture on standard input\n",
         b"clplist: writing failed after ",
     ) {
-        list(&rt, &mut rt.stdin());
+        work_through(
+            &rt,
+            &mut rt.stdin(),
+            &mut Listing::new(),
+            b"clplist: reading failed after ",
+            b"clplist: writing failed after ",
+            b"clplist: listing was refused\n",
+        );
     }
 }

@@ -4,25 +4,19 @@
 
 ghost use Rattle.std.specs.Prelude.{◌≡◌, ◌+◌, ◌<◌, ◌≤◌, ◌∷◌, length};
 ghost use Rattle.text.specs.Room.{high_low};
+ghost use Rattle.console.specs.Bounds.{Held};
 
-use console::{Got, asks, count_words, no_failure, read_some, tell, works, write_answer};
+use console::{asks, count_words, read_some, tell, works, write_answer, write_text};
 use replytext::record_text;
 use std::io::{Error, Read};
 use std::rt::{Clock, Env};
-use text::Answer;
+use text::Refusal;
 use wording::records_text;
 
-// What was read: how many bytes, and whether reading worked.
-#[derive(Clone, Copy)]
-struct Input {
-    len: usize,
-    open: bool,
-}
-
-// Whole records: where they end, and how many there are.
+// Whole records: how many bytes they have, and how many they are.
 #[derive(Clone, Copy)]
 struct Part {
-    end: usize,
+    len: usize,
     count: usize,
 }
 
@@ -33,139 +27,116 @@ fn records_room() -> [u8; 196608]
     [0; 196608]
 }
 
-// Reads to the end of the input, or until the room is full. Where reading failed, `why` tells why.
-fn read_input(rt: &impl Clock, input: &mut impl Read, bytes: &mut [u8], why: &mut Error) -> Input
-    ensures { result.len ≤ length bytes.new }
+// Reads to the end of the input, or until the room is full: how many bytes.
+fn read_input(rt: &impl Clock, input: &mut impl Read, bytes: &mut [u8]) -> Result<usize, Error>
+    ensures { Held result (length bytes.new) }
 {
     let mut len: usize = 0;
-    let mut turns = u64::MAX;
-    while turns > 0 {
-        turns -= 1;
-        if bytes.len() <= len {
-            return Input { len, open: true };
+    for _ in 0..u64::MAX {
+        if len == bytes.len() {
+            break;
         }
-        let got = read_some(rt, input, &mut bytes[len..], why);
-        match got {
-            Got::Failed => return Input { len, open: false },
-            Got::End => return Input { len, open: true },
-            Got::Bytes(n) => {
-                len += n;
-            }
+        let n = read_some(rt, input, &mut bytes[len..])?;
+        if n == 0 {
+            break;
         }
+        len += n;
     }
-    Input { len, open: true }
+    Ok(len)
 }
 
-// How long the record at a place is; what is left, where none of any kind stands there whole.
-fn len_at(records: &[u8], at: usize) -> usize
-    requires { at < length records.now }
-    ensures { (0 < result) × (at + result ≤ length records.now) }
+// How long the first of some records is; what is left, where none of any kind stands there whole.
+fn first_len(records: &[u8]) -> usize
+    requires { 0 < length records.now }
+    ensures { (0 < result) × (result ≤ length records.now) }
 {
-    let left = records.len() - at;
-    let n = words::reply_record_len(records[at]);
-    if n == 0 {
-        return left;
+    match words::reply_record_len(records[0]) {
+        n if 0 < n && n <= records.len() => n,
+        _ => records.len(),
     }
-    if left < n {
-        return left;
-    }
-    n
 }
 
-// The records from a place on, up to the first that ends 4,096 bytes or more after it.
-fn part_from(records: &[u8], from: usize) -> Part
-    requires { from < length records.now }
-    ensures { (from < result.end) × (result.end ≤ length records.now) }
+// The records up to the first that ends at 4,096 bytes or more.
+fn first_part(records: &[u8]) -> Part
+    requires { 0 < length records.now }
+    ensures { (0 < result.len) × (result.len ≤ length records.now) }
 {
-    let mut at = from;
-    let mut count: usize = 0;
-    while at < records.len() {
-        at += len_at(records, at);
+    let mut len = 0;
+    let mut count = 0;
+    while len < records.len() && len < 4096 {
+        len += first_len(&records[len..]);
         count += 1;
-        if 4096 <= at - from {
-            return Part { end: at, count };
-        }
     }
-    Part { end: at, count }
+    Part { len, count }
 }
 
 // The text of whole records, line after line, at the start of the room; tells how many bytes it is. Nothing is left out where there is room for 29 bytes more.
 fn part_text(records: &[u8], text: &mut [u8]) -> usize
     ensures { result ≤ length text.new }
 {
-    let mut at: usize = 0;
-    let mut w: usize = 0;
-    while at < records.len() {
-        if text.len() - w < 29 {
-            return w;
-        }
-        w += record_text(&records[at..], &mut text[w..]);
-        at += len_at(records, at);
+    let mut rest = records;
+    let mut w = 0;
+    while !rest.is_empty() && 29 <= text.len() - w {
+        w += record_text(rest, &mut text[w..]);
+        rest = &rest[first_len(rest)..];
     }
     w
 }
 
-// Writes the text of records, part after part, or says that writing failed.
-fn print_records(rt: &(impl Print + Clock), records: &[u8], text: &mut [u8]) {
-    let mut at: usize = 0;
-    let mut lines: u64 = 0;
-    let mut why = no_failure();
-    while at < records.len() {
-        let p = part_from(records, at);
-        let end = p.end;
-        let count = p.count;
-        let n = part_text(&records[at..end], text);
-        if !write_answer(rt, Answer::Wrote(n), text, &mut why) {
-            tell(b"clpreply: writing failed after ", lines, &why);
-            return;
-        }
-        lines = std::num::wrapping_add_u64(lines, count as u64);
-        at = end;
+// Writes the text of records, part after part; `lines` counts those whose text is written.
+fn print_records(
+    rt: &(impl Print + Clock),
+    records: &[u8],
+    text: &mut [u8],
+    lines: &mut u64,
+) -> Result<(), Error> {
+    let mut rest = records;
+    while !rest.is_empty() {
+        let part = first_part(rest);
+        let (whole, more) = rest.split_at(part.len);
+        let n = part_text(whole, text);
+        write_text(rt, &text[..n])?;
+        *lines = lines.wrapping_add(part.count as u64);
+        rest = more;
     }
-}
-
-// Writes a refusal, or says that writing failed.
-fn print_refusal(rt: &(impl Print + Clock), record: &[u8], text: &mut [u8]) {
-    let mut why = no_failure();
-    let a = records_text(record, text);
-    if !write_answer(rt, a, text, &mut why) {
-        tell(b"clpreply: writing failed after ", 0, &why);
-    }
+    Ok(())
 }
 
 // The record of a refusal.
-fn refusal(number: u8, place: usize) -> [u8; 4]
-    requires { place < 65536 }
-    ensures { result ≡ 5 ∷ number ∷ high_low place }
+fn record_of(refusal: Refusal) -> [u8; 4]
+    requires { refusal.place < 65536 }
+    ensures { result ≡ 5 ∷ refusal.number ∷ high_low refusal.place }
 {
-    [5, number, (place / 256) as u8, (place % 256) as u8]
+    let [high, low] = (refusal.place as u16).to_be_bytes();
+    [5, refusal.number, high, low]
 }
 
-// Writes what reading a reply gives.
+// Writes what reading a reply gives, or says that writing failed.
 fn print_reply(rt: &(impl Print + Clock), reply: &[u8], records: &mut [u8], text: &mut [u8]) {
-    let a = replies::read(reply, records);
-    match a {
-        Answer::Wrote(n) => print_records(rt, &records[..n], text),
-        Answer::Refused { number, place } => {
-            let r = refusal(number, place);
-            print_refusal(rt, &r, text);
+    let mut lines = 0;
+    let printed = match replies::read(reply, records) {
+        Ok(n) => print_records(rt, &records[..n], text, &mut lines),
+        Err(refusal) => {
+            let answer = records_text(&record_of(refusal), text);
+            write_answer(rt, answer, text)
         }
+    };
+    if let Err(why) = printed {
+        tell(b"clpreply: writing failed after ", lines, &why);
     }
 }
 
 // Lists standard input. A byte more than a reply may have is read, so that a longer one is refused as such.
 fn list(rt: &(impl Print + Clock), input: &mut impl Read) {
     let mut bytes = io::large_buffer();
-    let mut why = no_failure();
-    let got = read_input(rt, input, &mut bytes, &mut why);
-    if !got.open {
-        tell(b"clpreply: reading failed after ", 0, &why);
-        return;
+    match read_input(rt, input, &mut bytes) {
+        Err(why) => tell(b"clpreply: reading failed after ", 0, &why),
+        Ok(n) => {
+            let mut records = records_room();
+            let mut text = io::large_buffer();
+            print_reply(rt, &bytes[..n], &mut records, &mut text);
+        }
     }
-    let n = got.len;
-    let mut records = records_room();
-    let mut text = io::large_buffer();
-    print_reply(rt, &bytes[..n], &mut records, &mut text);
 }
 
 fn main(rt: HostRuntime) {

@@ -1,10 +1,8 @@
 -- What a caller of a read takes from its promise. Assumes nothing.
-use Prim.Native.Nat.{ℕ, ◌≤◌}
-use mathlib.Core.Path.{◌≡◌, subst}
-use Rattle.console.specs.declared.Got.{Got}
-use Rattle.console.specs.declared.Got.TheVariants.{Bytes}
+use Rattle.std.proofs.Common.{ℕ, ◌≤◌, ◌≡◌, Result, Ok, subst}
+use Rattle.std.specs.declared.io.Error.{Error}
 use Rattle.console.specs.Bounds.{Held}
 
 -- the bytes that were read lie within what was lent
-pub held_bytes : (g : Got) (most n : ℕ) → Held g most → g ≡ Bytes n → n ≤ most
-held_bytes g most n h e = subst (λ (x : Got). Held x most) e h
+pub held_bytes : (r : Result ℕ Error) (most n : ℕ) → Held r most → r ≡ Ok n → n ≤ most
+held_bytes r most n h e = subst (λ (x : Result ℕ Error). Held x most) e h

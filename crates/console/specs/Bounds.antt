@@ -1,17 +1,24 @@
 -- What can be said of reading and writing: how many bytes, and not which.
-use Rattle.std.specs.Prelude.{ℕ, ◌≤◌}
-use Rattle.text.specs.declared.Answer.{Answer}
-use Rattle.text.specs.declared.Answer.TheVariants.{Wrote, Refused}
-use Rattle.console.specs.declared.Got.{Got}
-use Rattle.console.specs.declared.Got.TheVariants.{Bytes, End, Failed}
+use Rattle.std.specs.Prelude.{ℕ, ◌≡◌, ◌≤◌, Result, Ok, Err}
+use Rattle.std.specs.declared.io.Error.{Error}
+use Rattle.text.specs.declared.Refusal.{Refusal}
 
 -- the bytes that a read gave stand within so many
-abbrev pub Held : Got → ℕ → Type 0
-Held (Bytes n) most = n ≤ most
-Held End most = Unit {0}
-Held Failed most = Unit {0}
+abbrev pub Held : Result ℕ Error → ℕ → Type 0
+Held (Ok n) most = n ≤ most
+Held (Err why) most = Unit {0}
+
+-- a write took all of so many bytes
+abbrev pub Taken : Result ℕ Error → ℕ → Type 0
+Taken (Ok n) all = n ≡ all
+Taken (Err why) all = Unit {0}
 
 -- an answer tells of a text, and of no more than so many bytes
-abbrev pub Told : Answer → ℕ → Type 0
-Told (Wrote n) most = n ≤ most
-Told (Refused k p) most = ⊥
+abbrev pub Told : Result ℕ Refusal → ℕ → Type 0
+Told (Ok n) most = n ≤ most
+Told (Err e) most = ⊥
+
+-- what was written is what an answer tells of
+abbrev pub ToldAll : Result (Unit {0}) Error → Result ℕ Refusal → ℕ → Type 0
+ToldAll (Ok u) a most = Told a most
+ToldAll (Err why) a most = Unit {0}

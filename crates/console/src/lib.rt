@@ -2,28 +2,20 @@
 // What is read and written no contract can speak of.
 #![tactic(auto)]
 
-ghost use Rattle.std.specs.Prelude.{◌≡◌, true, ◌≤◌, length};
+ghost use Rattle.std.specs.Prelude.{◌≡◌, ◌<◌, ◌≤◌, length};
 ghost use Rattle.std.specs.IoError.{error_kind};
 ghost use Rattle.console.specs.Asked.{asked_of, is_work};
-ghost use Rattle.console.specs.Bounds.{Held, Told};
+ghost use Rattle.console.specs.Bounds.{Held, Taken, ToldAll};
 
 use std::env::FillError;
 use std::io::{Error, ErrorKind, Read, Write};
 use std::rt::{Clock, Env};
 use std::thread;
 use std::time::Duration;
-use text::Answer;
+use text::Refusal;
 
 // Standard error.
 const STDERR: i32 = 2;
-
-// What a read gave: so many bytes at the start of what was lent, the end of the input, or nothing since reading failed.
-#[derive(Clone, Copy)]
-pub enum Got {
-    Bytes(usize),
-    End,
-    Failed,
-}
 
 // What a program is asked by its arguments: to do its work, what it is for, which it is, or something that it does not know.
 #[derive(Clone, Copy)]
@@ -48,22 +40,16 @@ pub fn count_words(rt: &impl Env) -> usize
 }
 
 // What the words ask that a program was started with: how many there are, its own name among them, and the first after that.
+#[tactic(auto, unfolding(crate::specs::Asked::asked_of, crate::specs::Asked::asked_by, text::specs::Bytes::bytes))]
 pub fn asks(words: usize, first: &[u8]) -> Asked
     ensures { result ≡ asked_of words first.now }
 {
-    if words <= 1 {
-        return Asked::Work;
+    match words {
+        0 | 1 => Asked::Work,
+        2 if text::same(first, b"--help") => Asked::Help,
+        2 if text::same(first, b"--version") => Asked::Version,
+        _ => Asked::Other,
     }
-    if 2 < words {
-        return Asked::Other;
-    }
-    if text::same(first, b"--help") {
-        return Asked::Help;
-    }
-    if text::same(first, b"--version") {
-        return Asked::Version;
-    }
-    Asked::Other
 }
 
 // Whether a program is to do its work. Asked for something else, it is answered here: by its help or its version, or by what it says of other arguments;
@@ -79,31 +65,24 @@ pub fn works(
     ensures { result ≡ is_work asked }
 {
     match asked {
-        Asked::Work => true,
-        Asked::Help => {
-            say(rt, help, failed);
-            false
-        }
-        Asked::Version => {
-            say(rt, version, failed);
-            false
-        }
+        Asked::Work => return true,
+        Asked::Help => say(rt, help, failed),
+        Asked::Version => say(rt, version, failed),
         Asked::Other => {
             io::write_all(STDERR, other);
-            false
         }
     }
+    false
 }
 
 // Writes a text to standard output; where that fails, says so on standard error.
 fn say(rt: &(impl Print + Clock), text: &[u8], failed: &[u8]) {
-    let mut why = no_failure();
-    if write_text(rt, text, &mut why) < text.len() {
+    if let Err(why) = write_text(rt, text) {
         tell(failed, 0, &why);
     }
 }
 
-// Why a call failed, before any has.
+// Why something failed that is no call's failure.
 pub fn no_failure() -> Error
     ensures { error_kind result ≡ ErrorKind.Other }
 {
@@ -115,17 +94,16 @@ fn pause(rt: &impl Clock) {
     thread::sleep(rt, Duration::from_millis(1));
 }
 
-// After a call that failed: whether to try it again, at once where it was interrupted, and after a pause where it would have had to wait.
-fn again(rt: &impl Clock, why: &Error) -> bool {
-    let kind = why.kind();
-    if kind == ErrorKind::Interrupted {
-        return true;
+// After a call that failed: it is to be tried again, at once where it was interrupted, and after a pause where it would have had to wait; else it has failed.
+fn again(rt: &impl Clock, why: Error) -> Result<(), Error> {
+    match why.kind() {
+        ErrorKind::Interrupted => Ok(()),
+        ErrorKind::WouldBlock => {
+            pause(rt);
+            Ok(())
+        }
+        _ => Err(why),
     }
-    if kind != ErrorKind::WouldBlock {
-        return false;
-    }
-    pause(rt);
-    true
 }
 
 // Says on standard error what failed, after how many lines, and why; nothing where nobody reads the output any more.
@@ -155,63 +133,138 @@ fn tell_why(why: &Error) {
     io::write_all(STDERR, words.as_bytes());
 }
 
-// Reads what is there from standard input, and waits only where nothing is. Where reading failed, `why` tells why.
-pub fn read_some(rt: &impl Clock, input: &mut impl Read, bytes: &mut [u8], why: &mut Error) -> Got
+// Reads what is there, and waits only where nothing is: how many bytes now stand at the start of what was lent, none at the end of the input.
+pub fn read_some(rt: &impl Clock, input: &mut impl Read, bytes: &mut [u8]) -> Result<usize, Error>
     ensures { Held result (length bytes.new) }
 {
     for _ in 0..u64::MAX {
         match input.read(bytes) {
-            Ok(0) => return Got::End,
-            Ok(n) => return Got::Bytes(n),
-            Err(error) => {
-                *why = error;
-                if !again(rt, why) {
-                    return Got::Failed;
-                }
-            }
+            Ok(n) => return Ok(n),
+            Err(why) => again(rt, why)?,
         }
     }
-    Got::Failed
+    Err(no_failure())
 }
 
-// Writes a text to standard output: how many of its bytes were taken, fewer than all where writing failed, and then `why` tells why.
-pub fn write_text(rt: &(impl Print + Clock), text: &[u8], why: &mut Error) -> usize
-    ensures { result ≤ length text.now }
+// Writes a text to standard output, all of it: how many bytes those are.
+pub fn write_text(rt: &(impl Print + Clock), text: &[u8]) -> Result<usize, Error>
+    ensures { Taken result (length text.now) }
 {
-    let mut done: usize = 0;
+    let mut rest = text;
     for _ in 0..u64::MAX {
-        if text.len() <= done {
-            return done;
+        if rest.is_empty() {
+            return Ok(text.len());
         }
-        match rt.write_some(&text[done..]) {
+        match rt.write_some(rest) {
             Ok(0) => pause(rt),
-            Ok(put) => done += put,
-            Err(error) => {
-                *why = error;
-                if !again(rt, why) {
-                    return done;
-                }
-            }
+            Ok(put) => rest = &rest[put..],
+            Err(why) => again(rt, why)?,
         }
     }
-    done
+    Err(no_failure())
 }
 
-// Writes the text at a room's start that an answer tells of: whether all of it was taken. A refusal has none, and neither has an answer that tells of more
-// than the room holds.
-pub fn write_answer(rt: &(impl Print + Clock), a: Answer, room: &[u8], why: &mut Error) -> bool
-    ensures { result ≡ true → Told a (length room.now) }
+// Writes the text at a room's start that an answer tells of, all of it. A refusal has none, and neither has an answer that tells of more than the room holds.
+pub fn write_answer(
+    rt: &(impl Print + Clock),
+    answer: Result<usize, Refusal>,
+    room: &[u8],
+) -> Result<(), Error>
+    ensures { ToldAll result answer (length room.now) }
 {
-    match a {
-        Answer::Wrote(n) => {
-            if room.len() < n {
-                return false;
-            }
-            write_text(rt, &room[..n], why) == n
+    match answer {
+        Ok(n) if n <= room.len() => {
+            write_text(rt, &room[..n])?;
+            Ok(())
         }
-        Answer::Refused {
-            number: _,
-            place: _,
-        } => false,
+        _ => Err(no_failure()),
+    }
+}
+
+// ---- a capture, part by part
+
+// What a call made of a part: how many bytes at its front were used, how many lines ended in them, and the answer for the text of these.
+#[derive(Clone, Copy)]
+pub struct Made {
+    pub used: usize,
+    pub lines: usize,
+    pub answer: Result<usize, Refusal>,
+}
+
+// What a program makes of a capture. A call uses no more than a part has, and something where there is something.
+pub trait Work {
+    // The text of the lines that end at the front of a part, at the room's start.
+    fn take(&mut self, part: &[u8], text: &mut [u8; 65536]) -> Made
+        ensures used_in_bounds { result.used ≤ length part.now }
+        ensures goes_on { 0 < length part.now → 0 < result.used };
+
+    // The text of what the capture's end says, at the room's start; none where the end is refused, which no capture leads to.
+    fn end(&mut self, text: &mut [u8; 65536]) -> Option<Result<usize, Refusal>>;
+}
+
+// Why a capture was not worked through: reading failed, writing did, or its end was refused.
+#[derive(Drop)]
+enum Failure {
+    Reading(Error),
+    Writing(Error),
+    Refused,
+}
+
+// Hands on a part of the capture, call after call, and writes the text of each; `lines` counts those whose text is written.
+fn feed(
+    rt: &(impl Print + Clock),
+    work: &mut impl Work,
+    part: &[u8],
+    text: &mut [u8; 65536],
+    lines: &mut u64,
+) -> Result<(), Error> {
+    let mut rest = part;
+    while !rest.is_empty() {
+        let made = work.take(rest, text);
+        rest = &rest[made.used..];
+        write_answer(rt, made.answer, text)?;
+        *lines = lines.wrapping_add(made.lines as u64);
+    }
+    Ok(())
+}
+
+// Reads to the end of the input and hands on what is read, and then the end.
+fn try_through(
+    rt: &(impl Print + Clock),
+    input: &mut impl Read,
+    work: &mut impl Work,
+    lines: &mut u64,
+) -> Result<(), Failure> {
+    let mut bytes = io::large_buffer();
+    let mut text = io::large_buffer();
+    for _ in 0..u64::MAX {
+        let n = read_some(rt, input, &mut bytes).map_err(Failure::Reading)?;
+        if n == 0 {
+            break;
+        }
+        feed(rt, work, &bytes[..n], &mut text, lines).map_err(Failure::Writing)?;
+    }
+    let answer = work.end(&mut text).ok_or(Failure::Refused)?;
+    write_answer(rt, answer, &text).map_err(Failure::Writing)
+}
+
+// Works a capture through from an input: the text of each part of it is written before the next read. Where reading or writing fails, says so on standard error,
+// with the number of lines whose text was written; `reading`, `writing` and `refused` are what it says there.
+pub fn work_through(
+    rt: &(impl Print + Clock),
+    input: &mut impl Read,
+    work: &mut impl Work,
+    reading: &[u8],
+    writing: &[u8],
+    refused: &[u8],
+) {
+    let mut lines = 0;
+    match try_through(rt, input, work, &mut lines) {
+        Ok(()) => {}
+        Err(Failure::Reading(why)) => tell(reading, lines, &why),
+        Err(Failure::Writing(why)) => tell(writing, lines, &why),
+        Err(Failure::Refused) => {
+            io::write_all(STDERR, refused);
+        }
     }
 }

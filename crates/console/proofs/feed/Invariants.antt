@@ -1,0 +1,6 @@
+-- Each call uses something of what is left.
+use Rattle.std.proofs.Common.{length}
+use Rattle.console.proofs.feed.Given as goal
+
+abbrev pub decreases-loop-rest : goal.decreases-loop-rest
+decreases-loop-rest g l = length l.rest
