@@ -2,41 +2,40 @@
 // after it; then in room of exactly the writing's size, and in one byte less, with all that the room holds. Room is filled with dots before.
 #![tactic(auto)]
 
-use showing::{answered, first, line_len};
-use text::Answer;
+use showing::{answered, first, say, split_line};
 
 // In all of this room.
 fn into(line: &[u8], room: &mut [u8]) {
     answered(canonical::canonical(line, room));
-    io::write_all(1, room);
-    io::write_all(1, b"\n");
+    say(room);
+    say(b"\n");
 }
 
 // In the first n bytes of this room.
 fn sized(line: &[u8], room: &mut [u8], n: usize) {
-    if n <= room.len() {
-        into(line, &mut room[0..n]);
+    if let Some(part) = room.get_mut(..n) {
+        into(line, part);
     }
 }
 
 fn exact(line: &[u8], n: usize) {
-    io::write_all(1, b"exact ");
+    say(b"exact ");
     let mut room = [b'.'; 3000];
     sized(line, &mut room, n);
 }
 
 fn short(line: &[u8], n: usize) {
-    if 0 < n {
-        io::write_all(1, b"short ");
+    if let Some(less) = n.checked_sub(1) {
+        say(b"short ");
         let mut room = [b'.'; 3000];
-        sized(line, &mut room, n - 1);
+        sized(line, &mut room, less);
     }
 }
 
 // The first n bytes of this room.
 fn held(room: &[u8], n: usize) {
     first(room, n);
-    io::write_all(1, b"\n");
+    say(b"\n");
 }
 
 fn show(line: &[u8]) {
@@ -44,28 +43,22 @@ fn show(line: &[u8]) {
     let a = canonical::canonical(line, &mut room);
     answered(a);
     match a {
-        Answer::Wrote(n) => {
+        Ok(n) => {
             if n < 2997 {
                 held(&room, n + 3);
             }
             exact(line, n);
             short(line, n);
         }
-        Answer::Refused {
-            number: _,
-            place: _,
-        } => {
-            held(&room, 3);
-        }
+        Err(_) => held(&room, 3),
     }
 }
 
 fn cases(input: &[u8]) {
-    let mut at: usize = 0;
-    while at < input.len() {
-        let end = at + line_len(input, at);
-        show(&input[at..end]);
-        at = end + 1;
+    let mut rest = input;
+    while let Some((line, more)) = split_line(rest) {
+        show(line);
+        rest = more;
     }
 }
 

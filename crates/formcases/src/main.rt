@@ -4,23 +4,24 @@
 #![tactic(auto)]
 
 use forms::{Piece, Shape, Where};
-use showing::{flag, line_len, number};
+use showing::{flag, number, say, split_line};
 
-fn shape(s: Shape) {
-    match s {
-        Shape::Is { name, operator } => {
-            number(name);
-            number(operator as usize);
-        }
-        Shape::No => {
-            io::write_all(1, b"- ");
-        }
-    }
+// Nothing of the form.
+fn none() {
+    say(b"- ");
+}
+
+fn shape(s: Option<Shape>) {
+    let Some(s) = s else {
+        return none();
+    };
+    number(s.name);
+    number(usize::from(s.operator));
 }
 
 // The first n bytes of s.
 fn parts(s: &[u8], n: usize) {
-    io::write_all(1, b"| ");
+    say(b"| ");
     flag(forms::is_text(s, n));
     flag(forms::is_list(s, n));
     flag(forms::is_value(s, n));
@@ -29,30 +30,31 @@ fn parts(s: &[u8], n: usize) {
     number(forms::entry_len(s, n));
 }
 
-fn target(w: Where) {
+fn target(w: Option<Where>) {
+    let Some(w) = w else {
+        return none();
+    };
     match w {
-        Where::Session => {
-            io::write_all(1, b"session ");
-        }
+        Where::Session => say(b"session "),
         Where::Path { rooted, segments } => {
-            io::write_all(1, b"path ");
+            say(b"path ");
             flag(rooted);
             number(segments);
-        }
-        Where::No => {
-            io::write_all(1, b"- ");
         }
     }
 }
 
-fn piece(p: Piece) {
+fn piece(p: Option<Piece>) {
+    let Some(p) = p else {
+        return none();
+    };
     match p {
         Piece::Here { len } => {
-            io::write_all(1, b"here ");
+            say(b"here ");
             number(len);
         }
         Piece::Above { len } => {
-            io::write_all(1, b"above ");
+            say(b"above ");
             number(len);
         }
         Piece::Child {
@@ -60,50 +62,28 @@ fn piece(p: Piece) {
             tag,
             number: n,
         } => {
-            io::write_all(1, b"child ");
+            say(b"child ");
             number(len);
             number(tag);
-            number(n as usize);
+            number(usize::from(n));
         }
         Piece::Children { len, tag } => {
-            io::write_all(1, b"children ");
+            say(b"children ");
             number(len);
             number(tag);
         }
-        Piece::No => {
-            io::write_all(1, b"- ");
-        }
-    }
-}
-
-// The segment after a separator.
-fn after(t: &[u8], i: usize, b: u8) {
-    match b {
-        b'/' => {
-            next(t, i);
-        }
-        b'\\' => {
-            next(t, i);
-        }
-        _ => {}
-    }
-}
-
-fn next(t: &[u8], i: usize) {
-    if i < t.len() {
-        piece(forms::segment_at(t, i + 1));
     }
 }
 
 fn segments(t: &[u8]) {
     piece(forms::segment_at(t, 0));
-    let mut i: usize = 0;
-    while i < t.len() {
-        after(t, i, t[i]);
-        i += 1;
+    for (i, b) in t.iter().enumerate() {
+        if forms::is_separator(*b) {
+            piece(forms::segment_at(t, i + 1));
+        }
     }
     piece(forms::segment_at(t, t.len()));
-    piece(forms::segment_at(t, 18446744073709551615));
+    piece(forms::segment_at(t, usize::MAX));
 }
 
 fn show(t: &[u8]) {
@@ -112,21 +92,20 @@ fn show(t: &[u8]) {
     flag(forms::is_level(t));
     flag(forms::is_place(t));
     parts(t, t.len());
-    parts(t, 18446744073709551615);
+    parts(t, usize::MAX);
     parts(t, t.len() / 2);
-    io::write_all(1, b"| ");
+    say(b"| ");
     shape(forms::topic_of(t));
     target(forms::target_of(t));
     segments(t);
-    io::write_all(1, b"\n");
+    say(b"\n");
 }
 
 fn texts(s: &[u8]) {
-    let mut at: usize = 0;
-    while at < s.len() {
-        let end = at + line_len(s, at);
-        show(&s[at..end]);
-        at = end + 1;
+    let mut rest = s;
+    while let Some((line, more)) = split_line(rest) {
+        show(line);
+        rest = more;
     }
 }
 

@@ -4,29 +4,23 @@
 
 ghost use Rattle.std.specs.Prelude.{◌≤◌};
 
-use joiner::{End, Joined, Joiner, Outcome};
-use showing::{flag, number, onward, refusal, runs, title};
+use joiner::{End, Joined, Joiner};
+use showing::{flag, number, onward, refusal, runs, say, title};
+use text::Refusal;
 
-fn outcome(o: Outcome) {
+fn outcome(o: Result<Option<usize>, Refusal>) {
     match o {
-        Outcome::More => {
-            io::write_all(1, b"more ");
-        }
-        Outcome::Line(n) => {
-            io::write_all(1, b"line ");
+        Ok(None) => say(b"more "),
+        Ok(Some(n)) => {
+            say(b"line ");
             number(n);
         }
-        Outcome::Refused {
-            number: k,
-            place: p,
-        } => {
-            refusal(k, p);
-        }
+        Err(r) => refusal(r),
     }
 }
 
 fn state(s: Joiner) {
-    io::write_all(1, b"state ");
+    say(b"state ");
     number(s.held);
     flag(s.grave);
     flag(s.cr);
@@ -35,14 +29,12 @@ fn state(s: Joiner) {
 
 // Writes what a call gave and left.
 fn show(r: Joined, buffer: &[u8]) {
-    io::write_all(1, b"  used ");
+    say(b"  used ");
     number(r.used);
-    let o = r.outcome;
-    outcome(o);
-    let s = r.state;
-    state(s);
+    outcome(r.outcome);
+    state(r.state);
     runs(buffer);
-    io::write_all(1, b"\n");
+    say(b"\n");
 }
 
 fn call(s: Joiner, buffer: &mut [u8], part: &[u8]) -> Joiner {
@@ -54,38 +46,31 @@ fn call(s: Joiner, buffer: &mut [u8], part: &[u8]) -> Joiner {
 // Call after call on what is left of a part, until it is used up.
 fn feed(mut s: Joiner, buffer: &mut [u8], part: &[u8]) -> Joiner {
     let mut at = 0;
+    // By the place, which the call moves by what it used.
     while at < part.len() {
         let r = s.join(buffer, &part[at..]);
         s = r.state;
-        let used = r.used;
         show(r, buffer);
-        at = onward(at, used, part.len());
+        at = onward(at, r.used, part.len());
     }
     s
 }
 
 fn end(s: Joiner) {
     match s.end() {
-        End::Nothing => {
-            io::write_all(1, b"  end nothing\n");
-        }
-        End::Cut => {
-            io::write_all(1, b"  end cut\n");
-        }
-        End::Refused {
-            number: k,
-            place: p,
-        } => {
-            io::write_all(1, b"  end ");
-            refusal(k, p);
-            io::write_all(1, b"\n");
+        Ok(End::Nothing) => say(b"  end nothing\n"),
+        Ok(End::Cut) => say(b"  end cut\n"),
+        Err(r) => {
+            say(b"  end ");
+            refusal(r);
+            say(b"\n");
         }
     }
 }
 
 // Calls on two parts from the start, and the end of the capture.
 fn capture(one: &[u8], two: &[u8]) {
-    let mut buffer = [46u8; 1024];
+    let mut buffer = [b'.'; 1024];
     let mut s = Joiner::new();
     s = feed(s, &mut buffer, one);
     s = feed(s, &mut buffer, two);
@@ -96,15 +81,14 @@ fn capture(one: &[u8], two: &[u8]) {
 fn long(n: usize, two: &[u8])
     requires { n ≤ 1025 }
 {
-    let one = [97u8; 1025];
-    capture(&one[0..n], two);
+    let one = [b'a'; 1025];
+    capture(&one[..n], two);
 }
 
 // A call from a state, and the end of the capture there.
 fn from(s: Joiner, part: &[u8]) {
-    let mut buffer = [46u8; 1024];
-    let t = call(s, &mut buffer, part);
-    end(t);
+    let mut buffer = [b'.'; 1024];
+    end(call(s, &mut buffer, part));
 }
 
 fn limit() {
@@ -221,9 +205,9 @@ fn impossible() {
 }
 
 fn lengths() {
-    let mut short = [46u8; 1023];
-    let mut wide = [46u8; 1025];
-    let mut none = [46u8; 1];
+    let mut short = [b'.'; 1023];
+    let mut wide = [b'.'; 1025];
+    let mut none = [b'.'; 1];
     let mut s = Joiner::new();
     // a buffer of 1,023 bytes, of 1,025, of 1
     title(27);

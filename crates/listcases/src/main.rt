@@ -2,42 +2,29 @@
 #![tactic(auto)]
 
 use joiner::Joiner;
-use lister::{Stands, end_answer, next_answer};
-use showing::{first, onward};
-use text::Answer;
+use lister::{end_answer, next_answer};
+use showing::{first, onward, say};
+use text::Refusal;
 use wording::records_text;
 
 // Prints records, or that they are bad.
 fn print(records: &[u8], text: &mut [u8]) {
-    let a = records_text(records, text);
-    match a {
-        Answer::Wrote(n) => {
-            first(text, n);
-        }
-        Answer::Refused {
-            number: _,
-            place: _,
-        } => {
-            io::write_all(1, b"bad records\n");
-        }
+    match records_text(records, text) {
+        Ok(n) => first(text, n),
+        Err(_) => say(b"bad records\n"),
     }
 }
 
 // Prints what stands in the room.
-fn show(s: Stands, room: &[u8], text: &mut [u8]) {
+fn show(s: Result<Option<usize>, Refusal>, room: &[u8], text: &mut [u8]) {
     match s {
-        Stands::Nothing => {}
-        Stands::Records(n) => {
-            if n <= room.len() {
-                print(&room[0..n], text);
+        Ok(None) => {}
+        Ok(Some(n)) => {
+            if let Some(records) = room.get(..n) {
+                print(records, text);
             }
         }
-        Stands::Refused {
-            number: _,
-            place: _,
-        } => {
-            io::write_all(1, b"refused\n");
-        }
+        Err(_) => say(b"refused\n"),
     }
 }
 
@@ -50,13 +37,12 @@ fn feed(
     text: &mut [u8],
 ) -> Joiner {
     let mut at: usize = 0;
+    // By the place, which the call moves by what it used.
     while at < part.len() {
         let r = next_answer(state, line, &part[at..], room);
         state = r.state;
-        let used = r.used;
-        let s = r.stands;
-        show(s, room, text);
-        at = onward(at, used, part.len());
+        show(r.stands, room, text);
+        at = onward(at, r.used, part.len());
     }
     state
 }
@@ -65,9 +51,7 @@ fn feed(
 fn list_all(line: &mut [u8], room: &mut [u8], text: &mut [u8]) -> Joiner {
     let mut state = Joiner::new();
     let mut part = [0u8; 7];
-    let mut turns = u64::MAX;
-    while turns > 0 {
-        turns -= 1;
+    for _ in 0..u64::MAX {
         let got = io::read_full(0, &mut part);
         if got == 0 {
             return state;

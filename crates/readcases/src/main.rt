@@ -3,66 +3,50 @@
 // the refusal as a record, a cut as a record, and the target's place and bytes.
 #![tactic(auto)]
 
-use showing::{answered, number, part_at, runs, two_at};
-use text::Verdict;
+use showing::{answered, number, part_at, runs, say, two_at};
+use text::Refusal;
 
-// The answer of a read into the first bytes of the room.
-fn read_into(line: &[u8], room: &mut [u8], size: usize) {
-    if size <= room.len() {
-        answered(reading::read(line, &mut room[0..size]));
-    }
-}
-
-// That answer, and what the whole room then holds.
+// The answer of a read into the first bytes of the room, and what the whole room then holds.
 fn read(line: &[u8], size: usize) {
     let mut room = [b'.'; 420];
-    read_into(line, &mut room, size);
+    if let Some(part) = room.get_mut(..size) {
+        answered(reading::read(line, part));
+    }
     runs(&room);
 }
 
 // A refusal and a cut as records, in enough room and in too little.
-fn record(k: u8, p: usize) {
-    if p < 65536 {
+fn record(r: Refusal) {
+    if let Ok(place) = u16::try_from(r.place) {
         let mut room = [b'.'; 5];
-        answered(reading::put_refusal(&mut room, k, p as u16));
+        answered(reading::put_refusal(&mut room, r.number, place));
         runs(&room);
         let mut small = [b'.'; 3];
-        answered(reading::put_refusal(&mut small, k, p as u16));
+        answered(reading::put_refusal(&mut small, r.number, place));
         runs(&small);
-    }
-}
-
-fn cut_into(room: &mut [u8], size: usize) {
-    if size <= room.len() {
-        answered(reading::put_cut(&mut room[0..size]));
     }
 }
 
 fn cut() {
     let mut room = [b'.'; 2];
-    cut_into(&mut room, 1);
-    runs(&room);
-    cut_into(&mut room, 0);
-    runs(&room);
+    for size in [1, 0] {
+        answered(reading::put_cut(&mut room[..size]));
+        runs(&room);
+    }
 }
 
 fn verdict(line: &[u8]) {
     match reading::verdict(line) {
-        Verdict::Fine => {
-            io::write_all(1, b"fine ");
-        }
-        Verdict::Flawed {
-            number: k,
-            place: p,
-        } => {
-            io::write_all(1, b"flawed ");
-            record(k, p);
+        Ok(()) => say(b"fine "),
+        Err(r) => {
+            say(b"flawed ");
+            record(r);
         }
     }
 }
 
 fn target(line: &[u8]) {
-    io::write_all(1, b"target ");
+    say(b"target ");
     let s = reading::target_span(line);
     number(s.at);
     number(s.len);
@@ -73,27 +57,26 @@ fn show(line: &[u8], size: usize) {
     read(line, size);
     verdict(line);
     target(line);
-    io::write_all(1, b"\n");
+    say(b"\n");
 }
 
 fn cases(input: &[u8]) {
     let mut at: usize = 0;
+    // By the place: a case is read at several offsets from it.
     while at < input.len() {
-        let p = part_at(input, at, 4, two_at(input, at, 2));
-        if p.cut {
-            io::write_all(1, b"short\n");
+        let Some(p) = part_at(input, at, 4, two_at(input, at, 2)) else {
+            say(b"short\n");
             return;
-        }
-        let start = p.start;
+        };
         let end = p.end;
-        show(&input[start..end], two_at(input, at, 0));
+        show(&input[p], two_at(input, at, 0));
         at = end;
     }
 }
 
 fn main() {
     cut();
-    io::write_all(1, b"\n");
+    say(b"\n");
     let mut all = io::large_buffer();
     let got = io::read_full(0, &mut all);
     cases(&all[..got]);

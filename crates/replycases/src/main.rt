@@ -4,17 +4,16 @@
 // equal bytes.
 #![tactic(auto)]
 
-ghost use Rattle.std.specs.Prelude.{◌≤◌, length};
+ghost use Rattle.std.specs.Prelude.{◌≤◌, ◌<◌, length, IfSome};
 
-use showing::{answered, part_at, runs, two_at};
-use text::Answer;
+use showing::{answered, part_at, runs, say, two_at};
+use text::Refusal;
 
 // A text that was put together: where it ends in the input, and how many bytes it has.
 #[derive(Clone, Copy)]
 struct Pieced {
     end: usize,
     len: usize,
-    cut: bool,
 }
 
 // A piece so often from a place of the room on, as far as the room goes; tells where the next one begins.
@@ -23,120 +22,78 @@ fn repeat(out: &mut [u8], at: usize, piece: &[u8], times: usize) -> usize
     ensures { result ≤ length out.new }
 {
     let mut w = at;
-    let mut k: usize = 0;
-    while k < times {
+    for _ in 0..times {
         if out.len() - w < piece.len() {
             return w;
         }
         text::copy(out, w, piece);
         w += piece.len();
-        k += 1;
     }
     w
 }
 
-fn wide(x: u8) -> usize {
-    x as usize
-}
-
-// Puts a text together from a place of the input on.
-fn put_together(input: &[u8], at: usize, out: &mut [u8]) -> Pieced
-    ensures { (result.len ≤ length out.new) × (result.end ≤ length input.now) }
+// Puts a text together from a place of the input on, if the input is not cut before its end.
+fn put_together(input: &[u8], at: usize, out: &mut [u8]) -> Option<Pieced>
+    ensures { IfSome result (λ p. (p.len ≤ length out.new) × (p.end ≤ length input.now) × (at < p.end)) }
 {
-    let all = input.len();
-    if all <= at {
-        return Pieced {
-            end: all,
-            len: 0,
-            cut: true,
-        };
+    let pieces = *input.get(at)?;
+    let mut end = at + 1;
+    let mut len: usize = 0;
+    for _ in 0..pieces {
+        let p = part_at(input, end, 4, two_at(input, end, 2))?;
+        let times = two_at(input, end, 0);
+        end = p.end;
+        len = repeat(out, len, &input[p], times);
     }
-    let pieces = wide(input[at]);
-    let mut from = at + 1;
-    let mut w: usize = 0;
-    let mut k: usize = 0;
-    while k < pieces {
-        let p = part_at(input, from, 4, two_at(input, from, 2));
-        if p.cut {
-            return Pieced {
-                end: all,
-                len: 0,
-                cut: true,
-            };
-        }
-        let a = p.start;
-        let b = p.end;
-        w = repeat(out, w, &input[a..b], two_at(input, from, 0));
-        from = b;
-        k += 1;
-    }
-    Pieced {
-        end: from,
-        len: w,
-        cut: false,
-    }
+    Some(Pieced { end, len })
 }
 
 // What is said of a case; 0 at 0 where there is no such kind.
-fn said(kind: u8, records: &[u8], text: &[u8], room: &mut [u8]) -> Answer {
+fn said(kind: u8, records: &[u8], text: &[u8], room: &mut [u8]) -> Result<usize, Refusal> {
     match kind {
         1 => replies::read(text, room),
         2 => replying::write(records, text, room),
         3 => replies::value(text, room),
-        _ => Answer::Refused {
+        _ => Err(Refusal {
             number: 0,
             place: 0,
-        },
+        }),
     }
 }
 
 fn answer(kind: u8, records: &[u8], text: &[u8], room: &mut [u8]) {
     answered(said(kind, records, text, room));
     runs(room);
-    io::write_all(1, b"\n");
+    say(b"\n");
 }
 
-// The case that begins at a place, whose room has so many bytes; tells where the next one begins.
-fn case(
-    input: &[u8],
-    at: usize,
-    kind: u8,
-    size: usize,
-    records: &mut [u8],
-    text: &mut [u8],
-) -> usize
-    ensures { result ≤ length input.now }
+// The case that begins at a place, if the input is not cut before its end; tells where the next one begins.
+fn case(input: &[u8], at: usize, records: &mut [u8], text: &mut [u8]) -> Option<usize>
+    ensures { IfSome result (λ n. (n ≤ length input.now) × (at < n)) }
 {
-    let r = put_together(input, at, records);
-    let middle = r.end;
-    let t = put_together(input, middle, text);
-    if r.cut | t.cut {
-        io::write_all(1, b"cut\n");
-        return input.len();
-    }
-    if 65535 < size {
-        io::write_all(1, b"too much room\n");
-        return input.len();
-    }
-    let n = r.len;
-    let m = t.len;
-    let end = t.end;
+    let head = part_at(input, at, 3, 0)?;
+    let r = put_together(input, head.end, records)?;
+    let t = put_together(input, r.end, text)?;
+    let size = two_at(input, at, 1);
     let mut room = [b'.'; 65535];
-    answer(kind, &records[..n], &text[..m], &mut room[0..size]);
-    end
+    answer(
+        input[at],
+        &records[..r.len],
+        &text[..t.len],
+        &mut room[..size],
+    );
+    Some(t.end)
 }
 
 fn cases(input: &[u8], records: &mut [u8], text: &mut [u8]) {
     let mut at: usize = 0;
-    let mut turns: usize = input.len();
-    while turns > 0 {
-        turns -= 1;
-        if input.len() <= at {
+    // By the place: a case is read at several offsets from it.
+    while at < input.len() {
+        let Some(next) = case(input, at, records, text) else {
+            say(b"cut\n");
             return;
-        }
-        let head = part_at(input, at, 3, 0);
-        let size = two_at(input, at, 1);
-        at = case(input, head.end, input[at], size, records, text);
+        };
+        at = next;
     }
 }
 

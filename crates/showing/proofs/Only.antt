@@ -1,7 +1,6 @@
 -- No second result of a function that answers fits its contract. Stated on each contract's own reading, so that it cannot drift from the source.
-use Prim.Native.Nat.{ℕ, ◌+◌, ◌≤◌, ◌<◌}
-use mathlib.Core.Path.{◌≡◌, refl, sym, ◌∙◌}
-use mathlib.Core.Bool.{Bool, true, false}
+use Prim.Native.Nat.{ℕ, ◌+◌}
+use mathlib.Core.Path.{◌≡◌, refl, sym, ◌∙◌, ap}
 use mathlib.Core.List.{List}
 use native.Mathlib.Omega.{arith}
 use lib.ListN.{length}
@@ -12,11 +11,15 @@ use borrow.Fn.World
 use borrow.Fn.Kinds
 use denote.Triple.Clauses
 use Rattle.text.proofs.Tests.{either}
-use Rattle.showing.specs.declared.Stretch.{Stretch}
-use Rattle.showing.specs.Ways.{PartIs, TwoIs}
+use Rattle.std.specs.declared.ops.Range.{Range}
+use Rattle.std.proofs.Common.{Option, Some, None, Bor}
+use Rattle.showing.specs.Ways.{LineIs, PartIs, TwoIs}
 use Rattle.showing.specs.contracts.line_len as line-len-fn
 use Rattle.showing.proofs.line_len.Kinds as line-len-kinds
 use Rattle.showing.proofs.line_len.Reads as line-len-reads
+use Rattle.showing.specs.contracts.split_line as split-line-fn
+use Rattle.showing.proofs.split_line.Kinds as split-line-kinds
+use Rattle.showing.proofs.split_line.Reads as split-line-reads
 use Rattle.showing.specs.contracts.onward as onward-fn
 use Rattle.showing.proofs.onward.Kinds as onward-kinds
 use Rattle.showing.proofs.onward.Reads as onward-reads
@@ -33,22 +36,25 @@ two_same s at skip r r' p q =
     either (leb (at + skip + 2) (length s)) (λ e. let h = leb-true (at + skip + 2) (length s) e in p.there h ∙ sym (q.there h))
     (λ e. let h = leb-false (at + skip + 2) (length s) e in p.missing h ∙ sym (q.missing h))
 
--- a part is cut, or not; where it is, it stands empty at the end
-part_same : (s : List ℕ) (at skip len : ℕ) (r r' : Stretch) → PartIs s at skip len r → PartIs s at skip len r'
-    → (r.start ≡ r'.start) × (r.end ≡ r'.end) × (r.cut ≡ r'.cut)
-part_same s at skip len r r' p q = go r.cut r'.cut refl refl
-  where
-    cut : (x : Stretch) → PartIs s at skip len x → x.cut ≡ true → (x.start ≡ length s) × (x.end ≡ length s) × (length s < at + skip + len)
-    cut x w e = let c = w.cuts e in (c.1, omega (arith, c.1, w.ordered, w.inside), c.0)
+-- a part is there, or cut
+part_same : (s : List ℕ) (at skip len : ℕ) (r r' : Option (Range ℕ)) → PartIs s at skip len r → PartIs s at skip len r' → r ≡ r'
+part_same s at skip len None None p q = refl
+part_same s at skip len None (Some y) p q = absurd (omega (arith, p, q.1, q.2))
+part_same s at skip len (Some x) None p q = absurd (omega (arith, q, p.1, p.2))
+part_same s at skip len (Some x) (Some y) p q =
+    ap (λ a. Some (record { start = a; end = x.end })) (p.0 ∙ sym q.0) ∙ ap (λ b. Some (record { start = y.start; end = b })) (p.1 ∙ sym q.1)
 
-    there : (x : Stretch) → PartIs s at skip len x → x.cut ≡ false → (x.start ≡ at + skip) × (x.end ≡ at + skip + len) × (at + skip + len ≤ length s)
-    there x w e = (w.begins e, w.ends e, omega (arith, w.ends e, w.inside))
+-- the bytes of a line and of what follows
+abbrev pub line_bytes : Option (Bor (List ℕ) × Bor (List ℕ)) → Option (List ℕ × List ℕ)
+line_bytes None = None
+line_bytes (Some p) = Some (p.0.now, p.1.now)
 
-    go : (b c : Bool) → r.cut ≡ b → r'.cut ≡ c → (r.start ≡ r'.start) × (r.end ≡ r'.end) × (r.cut ≡ r'.cut)
-    go true true e f = let a = cut r p e in let b = cut r' q f in (a.0 ∙ sym b.0, a.1 ∙ sym b.1, e ∙ sym f)
-    go false false e f = let a = there r p e in let b = there r' q f in (a.0 ∙ sym b.0, a.1 ∙ sym b.1, e ∙ sym f)
-    go true false e f = let a = cut r p e in let b = there r' q f in absurd (omega (arith, a.2, b.2))
-    go false true e f = let a = there r p e in let b = cut r' q f in absurd (omega (arith, a.2, b.2))
+-- a line is there, or nothing is left
+line_same : (s : List ℕ) (r r' : Option (Bor (List ℕ) × Bor (List ℕ))) → LineIs s r → LineIs s r' → line_bytes r ≡ line_bytes r'
+line_same s None None p q = refl
+line_same s None (Some y) p q = absurd (omega (arith, p, q.0))
+line_same s (Some x) None p q = absurd (omega (arith, q, p.0))
+line_same s (Some x) (Some y) p q = ap (λ a. Some (a, x.1.now)) (p.1 ∙ sym q.1) ∙ ap (λ b. Some (y.0.now, b)) (p.2 ∙ sym q.2)
 
 pub line_len_only :
     (κs : Lifetimes.Lfts 1) (a : World.ArgsD line-len-fn.signature κs)
@@ -57,6 +63,15 @@ pub line_len_only :
     → line-len-reads.Post κs a r s → line-len-reads.Post κs a r' s'
     → r ≡ r'
 line_len_only κs a r r' s s' p q = p.0 ∙ sym q.0
+
+-- of the bytes: where they stand no promise can say
+pub split_line_only :
+    (κs : Lifetimes.Lfts 1) (a : World.ArgsD split-line-fn.signature κs)
+    (r r' : World.ResD split-line-fn.signature κs)
+    (s s' : Clauses.AtExit (Kinds.ended_of 1 split-line-kinds.ps split-line-kinds.r) κs)
+    → split-line-reads.Post κs a r s → split-line-reads.Post κs a r' s'
+    → line_bytes r ≡ line_bytes r'
+split_line_only κs a r r' s s' p q = line_same _ r r' p q
 
 pub onward_only :
     (κs : Lifetimes.Lfts 0) (a : World.ArgsD onward-fn.signature κs)
@@ -72,12 +87,12 @@ pub two_at_only :
     (s s' : Clauses.AtExit (Kinds.ended_of 1 two-at-kinds.ps two-at-kinds.r) κs)
     → two-at-reads.Post κs a r s → two-at-reads.Post κs a r' s'
     → r ≡ r'
-two_at_only κs a r r' s s' p q = two_same _ _ _ r r' p q
+two_at_only κs a r r' s s' p q = two_same _ _ _ r r' p.0 q.0
 
 pub part_at_only :
     (κs : Lifetimes.Lfts 1) (a : World.ArgsD part-at-fn.signature κs)
     (r r' : World.ResD part-at-fn.signature κs)
     (s s' : Clauses.AtExit (Kinds.ended_of 1 part-at-kinds.ps part-at-kinds.r) κs)
     → part-at-reads.Post κs a r s → part-at-reads.Post κs a r' s'
-    → (r.start ≡ r'.start) × (r.end ≡ r'.end) × (r.cut ≡ r'.cut)
+    → r ≡ r'
 part_at_only κs a r r' s s' p q = part_same _ _ _ _ r r' p q

@@ -1,18 +1,18 @@
 -- A line of an input, where to go on in a part, a part of an input, and a number in it. Assumes nothing.
 use Prim.Native.Nat.{ℕ, suc, ◌+◌, ◌-◌, ◌*◌, ◌≤◌, ◌<◌}
 use mathlib.Core.List.{List}
-use mathlib.Core.Bool.{Bool, true, false, not}
-use mathlib.Core.Path.{◌≡◌, refl, sym, ap}
+use mathlib.Core.Bool.{Bool, not}
+use mathlib.Core.Path.{◌≡◌, refl, ap}
 use native.Mathlib.Omega.{arith}
 use lib.ListN.{length, get_or}
 use lib.Dec.{eqb}
 use borrow.Author.Tests.{eq-eqb, ne_eqb, le-leb, lt-leb, lt-ltb, le-ltb}
-use Rattle.text.proofs.Tests.{no_case}
+use Rattle.std.proofs.Common.{Some, None}
 use Rattle.text.proofs.Scans.{run_on, run_ends, run_past}
 use Rattle.showing.specs.Ways.{line_len, onward_to, PartIs, TwoIs}
 
 -- a line from a place on: another byte there, an LF there, past the end
-in_line : ℕ → Bool
+unfoldable pub in_line : ℕ → Bool
 in_line b = not (eqb b 10)
 
 module _ (s : List ℕ) (i : ℕ) where
@@ -46,11 +46,11 @@ module _ (at used len : ℕ) where
   unfolding onward_to
   on_there h e k = simp (lt-leb len at h, ne_eqb used 0 e, le-ltb (len - at) used k)
 
-pub part_cut : (s : List ℕ) (at skip len : ℕ) → length s < at + skip + len → PartIs s at skip len (record { start = length s; end = length s; cut = true })
-part_cut s at skip len h = record { ordered = omega arith; inside = omega arith; onward = omega arith; cuts = λ _. (h, refl); begins = λ e. no_case e; ends = λ e. no_case e }
+pub part_cut : (s : List ℕ) (at skip len : ℕ) → length s < at + skip + len → PartIs s at skip len None
+part_cut s at skip len h = h
 
-pub part_there : (s : List ℕ) (at skip len : ℕ) → at + skip + len ≤ length s → PartIs s at skip len (record { start = at + skip; end = at + skip + len; cut = false })
-part_there s at skip len h = record { ordered = omega arith; inside = h; onward = omega arith; cuts = λ e. no_case (sym e); begins = λ _. refl; ends = λ _. refl }
+pub part_there : (s : List ℕ) (at skip len : ℕ) → at + skip + len ≤ length s → PartIs s at skip len (Some (record { start = at + skip; end = at + skip + len }))
+part_there s at skip len h = (refl, refl, h)
 
 pub two_missing : (s : List ℕ) (at skip : ℕ) → length s < at + skip + 2 → TwoIs s at skip 0
 two_missing s at skip h = record { there = λ g. absurd (omega arith); missing = λ _. refl }

@@ -3,54 +3,43 @@
 // the bytes that it stands for, as runs of equal bytes, in enough room and in four bytes of room filled with dots.
 #![tactic(auto)]
 
-use showing::{answered, flag, number, part_at, refusal, runs, two_at};
-use terms::Found;
-use text::Verdict;
+use showing::{answered, flag, number, part_at, refusal, runs, say, two_at};
+use terms::Span;
 
 fn verdict(line: &[u8]) {
     match terms::lexical(line) {
-        Verdict::Fine => {
-            io::write_all(1, b"fine ");
-        }
-        Verdict::Flawed {
-            number: k,
-            place: p,
-        } => {
-            refusal(k, p);
-        }
+        Ok(()) => say(b"fine "),
+        Err(r) => refusal(r),
     }
+}
+
+// Where a term stands.
+fn span(s: Span) {
+    number(s.at);
+    number(s.len);
 }
 
 // The term that a scan from a place finds.
 fn found(line: &[u8], at: usize) {
-    io::write_all(1, b"from ");
+    say(b"from ");
     match terms::term_at(line, at) {
-        Found::Term { start, len } => {
-            number(start);
-            number(len);
-        }
-        Found::None => {
-            io::write_all(1, b"none ");
-        }
+        Some(s) => span(s),
+        None => say(b"none "),
     }
 }
 
 // All terms, going on from the end of each.
 fn all_terms(line: &[u8]) {
-    io::write_all(1, b"terms ");
+    say(b"terms ");
     let mut at: usize = 0;
-    loop {
-        let Found::Term { start, len } = terms::term_at(line, at) else {
-            return;
-        };
-        number(start);
-        number(len);
-        at = start + len;
+    while let Some(s) = terms::term_at(line, at) {
+        span(s);
+        at = s.at + s.len;
     }
 }
 
 fn tests(line: &[u8]) {
-    io::write_all(1, b"tests ");
+    say(b"tests ");
     flag(terms::has_bare(line, b'='));
     flag(terms::has_quote(line));
     flag(terms::starts_bare(line, b'-'));
@@ -64,7 +53,7 @@ fn written(line: &[u8], room: &mut [u8]) {
 }
 
 fn meanings(line: &[u8]) {
-    io::write_all(1, b"means ");
+    say(b"means ");
     number(terms::meant_len(line));
     let mut room = [b'.'; 1030];
     written(line, &mut room);
@@ -76,24 +65,22 @@ fn show(line: &[u8]) {
     verdict(line);
     all_terms(line);
     found(line, 1);
-    found(line, 18446744073709551615);
+    found(line, usize::MAX);
     tests(line);
     meanings(line);
-    io::write_all(1, b"\n");
+    say(b"\n");
 }
 
 fn cases(input: &[u8]) {
     let mut at: usize = 0;
+    // By the place: a case is read at several offsets from it.
     while at < input.len() {
-        let p = part_at(input, at, 2, two_at(input, at, 0));
-        if p.cut {
-            io::write_all(1, b"cut\n");
+        let Some(p) = part_at(input, at, 2, two_at(input, at, 0)) else {
+            say(b"cut\n");
             return;
-        }
-        let start = p.start;
-        let end = p.end;
-        show(&input[start..end]);
-        at = end;
+        };
+        at = p.end;
+        show(&input[p]);
     }
 }
 

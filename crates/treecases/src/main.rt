@@ -4,45 +4,29 @@
 // All room is lent full of dots, and all lists full of 7s; what they then hold is written as runs of equal values.
 #![tactic(auto)]
 
-ghost use Rattle.std.specs.Prelude.{◌≤◌, length};
+ghost use Rattle.std.specs.Prelude.{◌≤◌, ◌<◌, length, IfSome};
 
-use showing::{answered, list_runs, number, part_at, refusal, two_at};
-use tree::{Checked, Resolved};
+use showing::{answered, number, part_at, refusal, runs, say, two_at};
+use std::ops::Range;
+use tree::Resolved;
 
 fn checked(t: &[u8]) {
     match tree::check(t) {
-        Checked::Good => {
-            io::write_all(1, b"good\n");
-        }
-        Checked::Bad(p) => {
-            io::write_all(1, b"bad ");
+        Ok(()) => say(b"good\n"),
+        Err(p) => {
+            say(b"bad ");
             number(p);
-            io::write_all(1, b"\n");
+            say(b"\n");
         }
     }
-}
-
-// How many dots the room ends with.
-fn dots(room: &[u8]) -> usize
-    ensures { result ≤ length room.now }
-{
-    let mut n = 0;
-    while n < room.len() {
-        if room[room.len() - 1 - n] != b'.' {
-            return n;
-        }
-        n += 1;
-    }
-    n
 }
 
 // Writes the room: its text, and how many dots follow it.
 fn held(room: &[u8]) {
-    let n = dots(room);
-    let end = room.len() - n;
-    io::write_all(1, &room[0..end]);
-    io::write_all(1, b" ");
-    number(n);
+    let end = room.iter().rposition(|b| *b != b'.').map_or(0, |i| i + 1);
+    say(&room[..end]);
+    say(b" ");
+    number(room.len() - end);
 }
 
 fn written(t: &[u8], node: usize, room: &mut [u8]) {
@@ -52,88 +36,77 @@ fn written(t: &[u8], node: usize, room: &mut [u8]) {
 
 fn full_path(t: &[u8], node: usize, size: usize) {
     let mut room = [b'.'; 12000];
-    if size > 12000 {
-        io::write_all(1, b"too much room");
-        return;
+    match room.get_mut(..size) {
+        Some(part) => written(t, node, part),
+        None => say(b"too much room"),
     }
-    written(t, node, &mut room[0..size]);
 }
 
 fn resolved(text: &[u8], t: &[u8], default: usize, list: &mut [u16]) {
     match tree::resolve(text, t, default, list) {
-        Resolved::Session => {
-            io::write_all(1, b"session ");
-        }
-        Resolved::Nodes(n) => {
-            io::write_all(1, b"nodes ");
+        Ok(Resolved::Session) => say(b"session "),
+        Ok(Resolved::Nodes(n)) => {
+            say(b"nodes ");
             number(n);
         }
-        Resolved::Refused {
-            number: k,
-            place: p,
-        } => {
-            refusal(k, p);
-        }
+        Err(r) => refusal(r),
     }
-    list_runs(list);
+    runs(list);
 }
 
 fn resolve(text: &[u8], t: &[u8], default: usize, size: usize) {
     let mut list = [7u16; 600];
-    if size > 600 {
-        io::write_all(1, b"too long a list");
-        return;
+    match list.get_mut(..size) {
+        Some(part) => resolved(text, t, default, part),
+        None => say(b"too long a list"),
     }
-    resolved(text, t, default, &mut list[0..size]);
 }
 
 fn case(t: &[u8], kind: u8, a: usize, b: usize, text: &[u8]) {
     match kind {
-        1 => {
-            full_path(t, a, b);
-        }
-        2 => {
-            resolve(text, t, a, b);
-        }
-        _ => {
-            io::write_all(1, b"no such kind");
-        }
+        1 => full_path(t, a, b),
+        2 => resolve(text, t, a, b),
+        _ => say(b"no such kind"),
     }
-    io::write_all(1, b"\n");
+    say(b"\n");
 }
 
 fn group(t: &[u8], cases: &[u8]) {
     checked(t);
     let mut at: usize = 0;
+    // By the place: a case is read at several offsets from it.
     while at < cases.len() {
-        let p = part_at(cases, at, 7, two_at(cases, at, 5));
-        if p.cut {
-            io::write_all(1, b"cut\n");
+        let Some(p) = part_at(cases, at, 7, two_at(cases, at, 5)) else {
+            say(b"cut\n");
             return;
-        }
+        };
+        let end = p.end;
         let a = two_at(cases, at, 1);
         let b = two_at(cases, at, 3);
-        let start = p.start;
-        let end = p.end;
-        case(t, cases[at], a, b, &cases[start..end]);
+        case(t, cases[at], a, b, &cases[p]);
         at = end;
     }
 }
 
+// Where a tree and its cases stand that begin at a place, if the input is not cut before their end.
+fn parts_at(input: &[u8], at: usize) -> Option<(Range<usize>, Range<usize>)>
+    ensures { IfSome result (λ p. (p.0.start ≤ p.0.end) × (p.0.end ≤ length input.now) × (p.1.start ≤ p.1.end) × (p.1.end ≤ length input.now) × (at < p.1.end)) }
+{
+    let t = part_at(input, at, 4, two_at(input, at, 0))?;
+    let c = part_at(input, t.end, 0, two_at(input, at, 2))?;
+    Some((t, c))
+}
+
 fn groups(input: &[u8]) {
     let mut at: usize = 0;
+    // By the place: a case is read at several offsets from it.
     while at < input.len() {
-        let t = part_at(input, at, 4, two_at(input, at, 0));
-        let middle = t.end;
-        let c = part_at(input, middle, 0, two_at(input, at, 2));
-        if t.cut | c.cut {
-            io::write_all(1, b"cut\n");
+        let Some((t, c)) = parts_at(input, at) else {
+            say(b"cut\n");
             return;
-        }
-        let start = t.start;
-        let end = c.end;
-        group(&input[start..middle], &input[middle..end]);
-        at = end;
+        };
+        at = c.end;
+        group(&input[t], &input[c]);
     }
 }
 

@@ -4,22 +4,18 @@
 // the same, whether the verb can have the option.
 #![tactic(auto)]
 
-use showing::{flag, line_len, number};
-use words::{Kind, Known};
+use showing::{flag, number, say, split_line};
+use words::Kind;
 
-fn known(k: Known) {
+fn known(k: Option<u8>) {
     match k {
-        Known::Is(n) => {
-            number(n as usize);
-        }
-        Known::Unknown => {
-            io::write_all(1, b"- ");
-        }
+        Some(n) => number(usize::from(n)),
+        None => say(b"- "),
     }
 }
 
 fn end() {
-    io::write_all(1, b"\n");
+    say(b"\n");
 }
 
 // What a text is.
@@ -32,49 +28,38 @@ fn text(t: &[u8]) {
 }
 
 fn texts(s: &[u8]) {
-    let mut at: usize = 0;
-    while at < s.len() {
-        let end = at + line_len(s, at);
-        text(&s[at..end]);
-        at = end + 1;
+    let mut rest = s;
+    while let Some((line, more)) = split_line(rest) {
+        text(line);
+        rest = more;
     }
 }
 
 fn kind(k: Kind) {
-    match k {
-        Kind::Mere => {
-            io::write_all(1, b"mere ");
-        }
-        Kind::Keep => {
-            io::write_all(1, b"keep ");
-        }
-        Kind::Level => {
-            io::write_all(1, b"level ");
-        }
-        Kind::Place => {
-            io::write_all(1, b"place ");
-        }
-        Kind::Entries => {
-            io::write_all(1, b"entries ");
-        }
-    }
+    say(match k {
+        Kind::Mere => b"mere ",
+        Kind::Keep => b"keep ",
+        Kind::Level => b"level ",
+        Kind::Place => b"place ",
+        Kind::Entries => b"entries ",
+    });
 }
 
 // The two names of a number, at a place of the room.
 fn names(n: u8, at: usize) {
     let mut v = [b'.'; 16];
     number(words::put_verb_name(&mut v, at, n));
-    io::write_all(1, &v);
+    say(&v);
     let mut o = [b'.'; 16];
-    io::write_all(1, b" ");
+    say(b" ");
     number(words::put_option_name(&mut o, at, n));
-    io::write_all(1, &o);
+    say(&o);
     end();
 }
 
 // What a number is.
 fn one(n: u8) {
-    number(n as usize);
+    number(usize::from(n));
     kind(words::kind_of(n));
     known(words::body_len(n));
     number(words::record_len(n));
@@ -84,32 +69,23 @@ fn one(n: u8) {
 }
 
 fn numbers() {
-    let mut n: u8 = 0;
-    while n < 255 {
+    for n in 0..=u8::MAX {
         one(n);
-        n += 1;
     }
-    one(255);
 }
 
 // Of an option, whether each verb can have it.
 fn row(option: u8) {
-    let mut verb: u8 = 0;
-    while verb < 16 {
+    for verb in (0..16).chain([255]) {
         flag(support::allows(verb, option));
-        verb += 1;
     }
-    flag(support::allows(255, option));
     end();
 }
 
 fn table() {
-    let mut option: u8 = 0;
-    while option < 16 {
+    for option in (0..16).chain([255]) {
         row(option);
-        option += 1;
     }
-    row(255);
 }
 
 fn main() {

@@ -1,9 +1,6 @@
--- `canoncases::cases` is safe and ends: a line and its end are no more than what is left. Assumes nothing.
-use Rattle.std.proofs.Common.{◌≤◌, ◌+◌, ◌-◌, length}
+-- `canoncases::cases` ends: what follows a line is less than what was left. Assumes nothing.
+use Rattle.std.proofs.Common.{length}
 use Rattle.canoncases.proofs.cases.Given as goal
 
-abbrev pub invariant-loop-at : goal.invariant-loop-at
-invariant-loop-at l = l.at ≤ length l.input + 1
-
-abbrev pub decreases-loop-at : goal.decreases-loop-at
-decreases-loop-at l = length l.input + 1 - l.at
+abbrev pub decreases-loop-line : goal.decreases-loop-line
+decreases-loop-line l = length l.rest

@@ -1,9 +1,6 @@
--- `formcases::texts` is safe and ends: a line and its end are no more than what is left. Assumes nothing.
-use Rattle.std.proofs.Common.{◌≤◌, ◌+◌, ◌-◌, length}
+-- `formcases::texts` ends: what follows a line is less than what was left. Assumes nothing.
+use Rattle.std.proofs.Common.{length}
 use Rattle.formcases.proofs.texts.Given as goal
 
-abbrev pub invariant-loop-at : goal.invariant-loop-at
-invariant-loop-at l = l.at ≤ length l.s + 1
-
-abbrev pub decreases-loop-at : goal.decreases-loop-at
-decreases-loop-at l = length l.s + 1 - l.at
+abbrev pub decreases-loop-line : goal.decreases-loop-line
+decreases-loop-line l = length l.rest

@@ -1,20 +1,26 @@
 -- `showing::line_len` meets its contract.
-use Rattle.std.proofs.Common.{arith}
-use Rattle.showing.proofs.WayLaws.{line_on, line_ends_lem, line_past}
+use Rattle.std.proofs.Common.{rules, tests, ◌≡◌, ◌∙◌, ◌-◌, List, ℕ, not, take, drop, length, sym, ap}
+use Rattle.std.proofs.Math.Seq.{take-length}
+use Rattle.std.proofs.lemmas.List.{drop_min, length-drop}
+use Rattle.std.proofs.lemmas.Iterator.{YieldsList-from_slice}
+use Rattle.std.proofs.lemmas.Iterator.Search.{position_from_yields_List}
+use Rattle.text.specs.Lists.{run_len}
+use Rattle.text.proofs.Chains.{first_fails}
+use Rattle.showing.specs.Ways.{line_len}
+use Rattle.showing.proofs.WayLaws.{in_line}
 use Rattle.showing.proofs.line_len.Goals as goal
 
-pub returns-then-input-i-eq10-clause-value : goal.returns-then-input-i-eq10-clause-value
-returns-then-input-i-eq10-clause-value c =
-    let l = c.loop-i in
-    omega (arith, l.invariant.0, l.invariant.2, line_ends_lem c.args.input.now l.i c.loop-i-test.true c.if-input-i-eq10.true)
-
-pub loop-i-preserved : goal.loop-i-preserved
-loop-i-preserved c =
-    let l = c.loop-i in
-    let h = c.loop-i-test.true in
-    (omega arith, omega arith, omega (arith, l.invariant.0, l.invariant.2, line_on c.args.input.now l.i h c.if-input-i-eq10.false))
+-- a slice from a place on, as the loan has it
+whole : (n : ℕ) (s : List ℕ) → take (length s - n) (drop n s) ≡ drop n s
+whole n s = ap (λ k. take k (drop n s)) (sym (length-drop n s)) ∙ take-length (drop n s)
 
 pub returns-clause-value : goal.returns-clause-value
+unfolding line_len in_line
 returns-clause-value c =
-    let l = c.loop-i in
-    omega (arith, l.invariant.0, l.invariant.2, line_past c.args.input.now l.i c.loop-i-test.false)
+    let s = c.args.input.now in
+    let n = c.min.result in
+    let rest = whole n s in
+    c.unwrap_or.ensures
+    ∙ first_fails in_line c.position.result _ (drop n s) (ap length rest) (position_from_yields_List (λ b. not (in_line b)) _ _ _ c.position.ensures.ran (YieldsList-from_slice (drop n s) (c.iter.ensures.rest ∙ rest)) (λ x b q k. search (rules, tests)))
+    ∙ ap (λ k. run_len in_line (drop k s)) c.min.ensures
+    ∙ ap (run_len in_line) (drop_min c.args.at s)

@@ -1,15 +1,21 @@
 -- `showing::onward` meets its contract.
+use Rattle.std.proofs.Common.{arith, ◌-◌, ltb, leb}
+use borrow.Author.Tests.{leb-true, leb-false, ltb-true, ltb-false}
+use Rattle.text.proofs.Tests.{either}
 use Rattle.showing.proofs.WayLaws.{on_end, on_none, on_more, on_there}
 use Rattle.showing.proofs.onward.Goals as goal
 
-pub returns-then-len-at-clause-value : goal.returns-then-len-at-clause-value
-returns-then-len-at-clause-value c = on_end c.args.at c.args.used c.args.len c.if-len-at.true
-
 pub returns-then-used-eq0-clause-value : goal.returns-then-used-eq0-clause-value
-returns-then-used-eq0-clause-value c = on_none c.args.at c.args.used c.args.len c.if-len-at.false c.if-used-eq0.true
+returns-then-used-eq0-clause-value c =
+    let a = c.args in
+    either (leb a.len a.at) (λ e. on_end a.at a.used a.len (leb-true a.len a.at e)) (λ e. on_none a.at a.used a.len (leb-false a.len a.at e) c.if-used-eq0.true)
 
-pub returns-then-len-at-2-clause-value : goal.returns-then-len-at-2-clause-value
-returns-then-len-at-2-clause-value c = on_more c.args.at c.args.used c.args.len c.if-len-at.false c.if-used-eq0.false c.if-len-at-2.true
-
-pub returns-clause-value : goal.returns-clause-value
-returns-clause-value c = on_there c.args.at c.args.used c.args.len c.if-len-at.false c.if-used-eq0.false c.if-len-at-2.false
+pub returns-else-used-eq0-clause-value : goal.returns-else-used-eq0-clause-value
+returns-else-used-eq0-clause-value c =
+    let a = c.args in
+    either (leb a.len a.at)
+    (λ e. let h = leb-true a.len a.at e in omega (arith, h, c.min.ensures, c.saturating_add.ensures, on_end a.at a.used a.len h))
+    (λ e. let h = leb-false a.len a.at e in
+    either (ltb (a.len - a.at) a.used)
+    (λ g. let k = ltb-true (a.len - a.at) a.used g in omega (arith, h, k, c.min.ensures, c.saturating_add.ensures, on_more a.at a.used a.len h c.if-used-eq0.false k))
+    (λ g. let k = ltb-false (a.len - a.at) a.used g in omega (arith, h, k, c.min.ensures, c.saturating_add.ensures, c.ranges.len.fits, on_there a.at a.used a.len h c.if-used-eq0.false k)))

@@ -1,9 +1,0 @@
--- `wordcases::numbers` is safe and ends.
-use Rattle.std.proofs.Common.{◌≤◌, ◌-◌}
-use Rattle.wordcases.proofs.numbers.Given as goal
-
-abbrev pub invariant-loop-n : goal.invariant-loop-n
-invariant-loop-n l = l.n ≤ 255
-
-abbrev pub decreases-loop-n : goal.decreases-loop-n
-decreases-loop-n l = 255 - l.n
