@@ -1,28 +1,27 @@
 //! The tree's check as its proved source has it (`build.rs` takes it from there), over slices that count what is read of them.
 
 use std::cell::Cell;
-use std::ops::{Index, Range, RangeFrom, RangeTo};
+use std::ops::{Index, Range};
 
+// some of a record's methods serve paths alone
+#[allow(dead_code)]
 mod source {
-    use super::{meter, words, Bytes};
+    use super::{meter, Bytes, Row};
     include!(concat!(env!("OUT_DIR"), "/check.rs"));
 
     /// The same check without the table of marks: each record is compared with all earlier ones, parents first.
     pub fn check_without_marks(t: &Bytes) -> Checked {
-        for (k, p) in (0..t.len()).step_by(node_len()).enumerate() {
-            if bad_form(&t[p..], k, node_len()) || twin(&t[..p], &t[p..]) {
-                return Checked::Bad(p);
+        let (records, cut) = t.as_chunks::<LEN>();
+        for (k, r) in records.iter().enumerate() {
+            if Record::of(r, k).is_none_or(|r| r.twin(&records[..k])) {
+                return Checked::Bad(LEN * k);
             }
         }
-        Checked::Good
-    }
-}
-
-/// The lookup of a record's length, which reads nothing of a tree.
-pub mod words {
-    pub fn record_len(kind: u8) -> usize {
-        assert_eq!(kind, 16, "a node's record");
-        22
+        if cut.is_empty() {
+            Checked::Good
+        } else {
+            Checked::Bad(LEN * records.len())
+        }
     }
 }
 
@@ -78,9 +77,17 @@ mod meter {
     }
 }
 
+fn read() {
+    tell(|count| if IS_SEARCHING.get() { count.bytes += 1 } else { count.others += 1 });
+}
+
 /// Bytes that are counted as they are read.
 #[repr(transparent)]
 pub struct Bytes([u8]);
+
+/// Those of a record.
+#[repr(transparent)]
+pub struct Row([u8; 22]);
 
 impl Bytes {
     fn of(bytes: &[u8]) -> &Bytes {
@@ -91,37 +98,57 @@ impl Bytes {
     fn len(&self) -> usize {
         self.0.len()
     }
+
+    fn is_empty(&self) -> bool {
+        self.0.is_empty()
+    }
+
+    fn iter(&self) -> Reads<'_> {
+        Reads(self.0.iter())
+    }
+
+    fn as_chunks<const LEN: usize>(&self) -> (&[Row], &Bytes) {
+        assert_eq!(LEN, 22, "a record's bytes");
+        let whole = self.0.len() / 22;
+        // SAFETY: so many records are there, and a `Row` is 22 bytes and nothing else, by `repr(transparent)`.
+        let rows = unsafe { std::slice::from_raw_parts(self.0.as_ptr().cast(), whole) };
+        (rows, Bytes::of(&self.0[22 * whole..]))
+    }
 }
 
-impl Index<usize> for Bytes {
+/// Bytes in turn.
+pub struct Reads<'a>(std::slice::Iter<'a, u8>);
+
+impl<'a> Iterator for Reads<'a> {
+    type Item = &'a u8;
+
+    fn next(&mut self) -> Option<&'a u8> {
+        self.0.next().inspect(|_| read())
+    }
+}
+
+impl<'a> IntoIterator for &'a Bytes {
+    type Item = &'a u8;
+    type IntoIter = Reads<'a>;
+
+    fn into_iter(self) -> Reads<'a> {
+        self.iter()
+    }
+}
+
+impl Index<usize> for Row {
     type Output = u8;
 
     fn index(&self, at: usize) -> &u8 {
-        tell(|count| if IS_SEARCHING.get() { count.bytes += 1 } else { count.others += 1 });
+        read();
         &self.0[at]
     }
 }
 
-impl Index<Range<usize>> for Bytes {
+impl Index<Range<usize>> for Row {
     type Output = Bytes;
 
     fn index(&self, part: Range<usize>) -> &Bytes {
-        Bytes::of(&self.0[part])
-    }
-}
-
-impl Index<RangeFrom<usize>> for Bytes {
-    type Output = Bytes;
-
-    fn index(&self, part: RangeFrom<usize>) -> &Bytes {
-        Bytes::of(&self.0[part])
-    }
-}
-
-impl Index<RangeTo<usize>> for Bytes {
-    type Output = Bytes;
-
-    fn index(&self, part: RangeTo<usize>) -> &Bytes {
         Bytes::of(&self.0[part])
     }
 }

@@ -106,8 +106,8 @@ mod tests {
         for Shape { name, make } in SHAPES {
             for records in (0..70).chain([511, 512]) {
                 let good = make(records);
-                // the form and the marks of a good record take 32 readings, and comparing takes none of these over
-                assert_eq!(hold(&good).now.others, 32 * records as u64, "{name}, {records}");
+                // the form and the marks of a good record take 30 readings, and comparing takes none of these over
+                assert_eq!(hold(&good).now.others, 30 * records as u64, "{name}, {records}");
                 assert_eq!(proved(&good), None, "{name}, {records}");
                 let Some(last) = records.checked_sub(1) else {
                     continue;
