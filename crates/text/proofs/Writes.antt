@@ -1,7 +1,7 @@
 -- Runs of stores into lent room, and the answers of what writes into it. Assumes nothing.
 use Prim.Native.Nat.{ℕ, suc, zero, ◌+◌, ◌-◌, ◌<◌, ◌≤◌, min}
 use mathlib.Core.Path.{◌≡◌, refl, sym, ap, ◌∙◌}
-use mathlib.Core.List.{List, [], ◌∷◌, ◌++◌, append_assoc}
+use mathlib.Core.List.{List, [], ◌∷◌, ◌++◌}
 use mathlib.Core.Bool.{Bool, true, false}
 use native.Mathlib.Nat.{add-zero}
 use native.Mathlib.Numerals.{add-one}
@@ -9,8 +9,7 @@ use native.Mathlib.Omega.{arith}
 use borrow.Author.Tests.{le-leb, lt-leb}
 use lib.Dec.{leb}
 use lib.ListN.{length, get_or, take, drop, set, length-set, length-append, length-drop}
-use lib.Seq.{sets, sets-eq, set_out, take-nil, take-suc, take_at, length-take-le, drop-drop}
-use borrow.Rule.Slice.PartMut.{put_mid}
+use lib.Seq.{sets, sets-eq, set_out, take-nil, take-suc, take_at, length-take-le}
 use Rattle.text.specs.Room.{wrote, fitted, filled, refusal_at}
 use Rattle.std.proofs.Common.{Ok, Err}
 
@@ -32,12 +31,6 @@ module _ {A : Type 0} where
   sets_cut [] l i n h = ap (λ (m : List A). sets l i m) (take-nil n)
   sets_cut (x ∷ xs) l i zero h = sym (sets_past (x ∷ xs) l i (omega arith))
   sets_cut (x ∷ xs) l i (suc n) h = sets_cut xs (set l i x) (suc i) n (omega (arith, length-set l i x))
-
-  -- after a write to `out[at..at + n]`: ys is what that part then holds
-  pub put_mid_sets : (at n : ℕ) (out ys : List A) → length ys ≡ n → at + n ≤ length out → put_mid at n out ys ≡ sets out at ys
-  put_mid_sets at n out ys e h =
-      let d : drop n (drop at out) ≡ drop (at + length ys) out = rw e (drop-drop n at out) in
-      rw d (sym (append_assoc (take at out) ys (drop (at + length ys) out)) ∙ sym (sets-eq ys out at (omega arith)))
 
   -- what is left to write, where b holds t from the place `at` on
   pub sets_rest : (o t b : List A) (at w : ℕ) → b ≡ sets o at t → w ≡ at + length t → (s : List A) → sets b w s ≡ sets o at (t ++ s)

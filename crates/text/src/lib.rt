@@ -156,7 +156,10 @@ pub fn copy(out: &mut [u8], at: usize, src: &[u8])
 {
     if at < out.len() {
         let n = src.len().min(out.len() - at);
-        out[at..at + n].copy_from_slice(&src[..n]);
+        // Not by `copy_from_slice`, which needs memmove: the library needs memcpy and memset alone (clp.h), and memcpy is what this becomes.
+        for i in 0..n {
+            out[at + i] = src[i];
+        }
     }
 }
 
