@@ -64,9 +64,11 @@ def declared(text, spec):
         m = re.match(r'(module _ .*) where$', lines[i])
         if m:
             module = m.group(1) + ' '
-        elif lines[i] and not lines[i].startswith(' ') and not lines[i].startswith('--'):
+            i += 1
+            continue
+        if lines[i] and not lines[i].startswith(' ') and not lines[i].startswith('--'):
             module = ''
-        m = re.match(r'( *)((?:abbrev |unfoldable )?(?:pub )?(?:record |data )?)([^\s:(]+)(?: .*)? : ', lines[i])
+        m = re.match(r'( *)((?:abbrev |unfoldable )?(?:pub )?(?:record |data )?)([^\s:(]+)(?: .*)? :(?: |$)', lines[i])
         if m and not lines[i].lstrip().startswith(('use ', 'let ', '--')) and len(m.group(1)) <= (2 if module else 0):
             begin, indent = i, len(m.group(1))
             name = m.group(3)
@@ -108,7 +110,7 @@ def gather(files):
 
 
 def moved(gone, new):
-    """declarations that lie in another file, word for word"""
+    """declarations of the same name in another file; whether they say the same is for the reader"""
     back = collections.defaultdict(list)
     for k, v in new.items():
         back[(k[1].split('.')[-1])].append(k)
@@ -130,5 +132,5 @@ for title, a, b in (('Public functions and types', old[0], new[0]), ('Definition
     for k in changed:
         print('| %s | `%s` | %s | %s |' % (k[0], k[1], cell(a[k]), cell(b[k])))
     where = moved(gone, fresh)
-    print('\nNot there under their name: ' + '; '.join('%s `%s`%s' % (k[0], k[1], ' (now %s)' % ', '.join('%s `%s`' % w for w in where[k]) if k in where else '') for k in gone) + '.\n')
+    print('\nNot there under their name: ' + '; '.join('%s `%s`%s' % (k[0], k[1], ' (of this name now: %s)' % ', '.join('%s `%s`' % w for w in where[k]) if k in where else '') for k in gone) + '.\n')
     print('New: ' + '; '.join('%s `%s`' % k for k in sorted(fresh)) + '.\n')
