@@ -17,10 +17,9 @@ fn main() {
     let text = source("../crates/text/src/lib.rt");
     let tree = source("../crates/tree/src/lib.rt");
     let made = format!(
-        "pub mod text {{\n    use super::Bytes;\n{}}}\n\n{}\n{}\n#[derive(Clone, Copy)]\n{}\n{}\n{}",
+        "pub mod text {{\n    use super::Bytes;\n{}}}\n\n{}\n#[derive(Clone, Copy)]\n{}\n{}\n{}",
         TEXT.map(|name| function(&text, name)).concat(),
         tree.lines().find(|line| line.starts_with("const LEN: ")).expect("how many bytes a record has"),
-        piece(&tree, "pub enum Checked {"),
         counting(&piece(&tree, "struct Record<'a> {")),
         // the methods that the check calls stand in the first block
         TOLD.iter().fold(counting(&piece(&tree, "impl<'a> Record<'a> {")), |methods, told| telling(&methods, told)),

@@ -10,17 +10,17 @@ mod source {
     include!(concat!(env!("OUT_DIR"), "/check.rs"));
 
     /// The same check without the table of marks: each record is compared with all earlier ones, parents first.
-    pub fn check_without_marks(t: &Bytes) -> Checked {
+    pub fn check_without_marks(t: &Bytes) -> Result<(), usize> {
         let (records, cut) = t.as_chunks::<LEN>();
         for (k, r) in records.iter().enumerate() {
             if Record::of(r, k).is_none_or(|r| r.twin(&records[..k])) {
-                return Checked::Bad(LEN * k);
+                return Err(LEN * k);
             }
         }
         if cut.is_empty() {
-            Checked::Good
+            Ok(())
         } else {
-            Checked::Bad(LEN * records.len())
+            Err(LEN * records.len())
         }
     }
 }
@@ -166,11 +166,8 @@ pub fn check_without_marks(tree: &[u8]) -> Counted {
     counted(source::check_without_marks, tree)
 }
 
-fn counted(check: fn(&Bytes) -> source::Checked, tree: &[u8]) -> Counted {
+fn counted(check: fn(&Bytes) -> Result<(), usize>, tree: &[u8]) -> Counted {
     COUNT.take();
-    let place = match check(Bytes::of(tree)) {
-        source::Checked::Good => None,
-        source::Checked::Bad(place) => Some(place),
-    };
+    let place = check(Bytes::of(tree)).err();
     (place, COUNT.take())
 }

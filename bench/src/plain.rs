@@ -3,9 +3,8 @@
 /// The form of a record is tested by the proved source, here over plain slices.
 #[allow(dead_code, clippy::let_unit_value)]
 mod source {
-    use crate::counted::words;
-
     type Bytes = [u8];
+    type Row = [u8; LEN];
 
     mod meter {
         pub fn search() {}
@@ -15,8 +14,8 @@ mod source {
 
     include!(concat!(env!("OUT_DIR"), "/check.rs"));
 
-    pub fn is_bad(record: &[u8], index: usize) -> bool {
-        bad_form(record, index, node_len())
+    pub fn is_bad(record: &Row, index: usize) -> bool {
+        Record::of(record, index).is_none()
     }
 }
 
