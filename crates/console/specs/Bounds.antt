@@ -2,16 +2,17 @@
 use Rattle.std.specs.Prelude.{ℕ, ◌≡◌, ◌≤◌, Result, Ok, Err}
 use Rattle.std.specs.declared.io.Error.{Error}
 use Rattle.text.specs.declared.Refusal.{Refusal}
+use Rattle.console.specs.declared.Unwritten.{Unwritten}
 
 -- the bytes that a read gave stand within so many
 abbrev pub Held : Result ℕ Error → ℕ → Type 0
 Held (Ok n) most = n ≤ most
 Held (Err why) most = Unit {0}
 
--- a write took all of so many bytes
-abbrev pub Taken : Result ℕ Error → ℕ → Type 0
+-- a write took all of so many bytes; where it failed, it took no more than these
+abbrev pub Taken : Result ℕ Unwritten → ℕ → Type 0
 Taken (Ok n) all = n ≡ all
-Taken (Err why) all = Unit {0}
+Taken (Err left) all = left.taken ≤ all
 
 -- an answer tells of a text, and of no more than so many bytes
 abbrev pub Told : Result ℕ Refusal → ℕ → Type 0

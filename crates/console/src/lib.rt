@@ -77,8 +77,8 @@ pub fn works(
 
 // Writes a text to standard output; where that fails, says so on standard error.
 fn say(rt: &(impl Print + Clock), text: &[u8], failed: &[u8]) {
-    if let Err(why) = write_text(rt, text) {
-        tell(failed, 0, &why);
+    if let Err(left) = write_text(rt, text) {
+        tell(failed, 0, &left.why);
     }
 }
 
@@ -146,22 +146,42 @@ pub fn read_some(rt: &impl Clock, input: &mut impl Read, bytes: &mut [u8]) -> Re
     Err(no_failure())
 }
 
-// Writes a text to standard output, all of it: how many bytes those are.
-pub fn write_text(rt: &(impl Print + Clock), text: &[u8]) -> Result<usize, Error>
+// A text that was not written whole: how many of its bytes were taken, and why no more were.
+#[derive(Clone, Copy)]
+pub struct Unwritten {
+    pub taken: usize,
+    pub why: Error,
+}
+
+impl From<Unwritten> for Error {
+    fn from(left: Unwritten) -> Error {
+        left.why
+    }
+}
+
+// Writes a text to standard output, all of it: how many bytes those are; or how many were taken, where writing failed.
+pub fn write_text(rt: &(impl Print + Clock), text: &[u8]) -> Result<usize, Unwritten>
     ensures { Taken result (length text.now) }
 {
-    let mut rest = text;
+    let mut taken: usize = 0;
     for _ in 0..u64::MAX {
-        if rest.is_empty() {
-            return Ok(text.len());
+        if text.len() <= taken {
+            return Ok(taken);
         }
-        match rt.write_some(rest) {
+        match rt.write_some(&text[taken..]) {
             Ok(0) => pause(rt),
-            Ok(put) => rest = &rest[put..],
-            Err(why) => again(rt, why)?,
+            Ok(put) => taken += put,
+            Err(why) => {
+                if let Err(why) = again(rt, why) {
+                    return Err(Unwritten { taken, why });
+                }
+            }
         }
     }
-    Err(no_failure())
+    Err(Unwritten {
+        taken,
+        why: no_failure(),
+    })
 }
 
 // Writes the text at a room's start that an answer tells of, all of it. A refusal has none, and neither has an answer that tells of more than the room holds.
