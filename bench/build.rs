@@ -15,11 +15,13 @@ const TOLD: [(&str, &str); 3] = [
 
 fn main() {
     let text = source("../crates/text/src/lib.rt");
+    let words = source("../crates/words/src/lib.rt");
     let tree = source("../crates/tree/src/lib.rt");
     let made = format!(
-        "pub mod text {{\n    use super::Bytes;\n{}}}\n\n{}\n#[derive(Clone, Copy)]\n{}\n{}\n{}",
+        "pub mod text {{\n    use super::Bytes;\n{}}}\n\npub mod words {{\n    {}\n}}\n\n{}\n#[derive(Clone, Copy)]\n{}\n{}\n{}",
         TEXT.map(|name| function(&text, name)).concat(),
-        tree.lines().find(|line| line.starts_with("const LEN: ")).expect("how many bytes a record has"),
+        line(&words, "pub const NODE_LEN: "),
+        line(&tree, "const LEN: "),
         counting(&piece(&tree, "struct Record<'a> {")),
         // the methods that the check calls stand in the first block
         TOLD.iter().fold(counting(&piece(&tree, "impl<'a> Record<'a> {")), |methods, told| telling(&methods, told)),
@@ -32,6 +34,11 @@ fn main() {
 fn source(path: &str) -> String {
     println!("cargo:rerun-if-changed={path}");
     fs::read_to_string(path).unwrap_or_else(|error| panic!("{path}: {error}"))
+}
+
+/// The line that begins with this in a source.
+fn line<'a>(source: &'a str, begin: &str) -> &'a str {
+    source.lines().find(|line| line.starts_with(begin)).unwrap_or_else(|| panic!("no {begin}"))
 }
 
 /// What begins with this in a source and goes on to the next closing brace at a line's start.

@@ -32,8 +32,8 @@ enum Spot {
     Tagged { node: usize, at: usize, tag: usize },
 }
 
-// How many bytes a record has: kind 0, parent 1 and 2, tag length 3, tag and padding 4 to 19, number 20 and 21.
-const LEN: usize = 22;
+// How many bytes a record has, which `words` says: kind 0, parent 1 and 2, tag length 3, tag and padding 4 to 19, number 20 and 21.
+const LEN: usize = words::NODE_LEN;
 
 // A number's two bytes, high first.
 fn be16(high: u8, low: u8) -> u16

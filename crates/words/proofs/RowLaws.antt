@@ -1,7 +1,7 @@
 -- The tables: their rows are those of the numbers, computed over the whole table; what a row says; and a search among rows. Assumes nothing.
 use Prim.Native.Nat.{ℕ, zero, suc, ◌+◌, ◌-◌, ◌<◌, ◌≤◌}
 use mathlib.Core.Path.{◌≡◌, refl, sym, ap, ◌∙◌}
-use mathlib.Core.List.{List, [], ◌∷◌, ◌++◌, append_assoc}
+use mathlib.Core.List.{List, [], ◌∷◌, ◌++◌, append_assoc, map}
 use mathlib.Core.Bool.{Bool, true, false, cond, not, ◌&&◌, ◌||◌, and-true}
 use mathlib.Core.Option.{Option, none, some, some-injective}
 use mathlib.Core.Logic.{⊎_elim}
@@ -17,7 +17,7 @@ use Rattle.text.proofs.Tests.{either, or_case, no_case}
 use Rattle.text.proofs.Scans.{get_d_within}
 use Rattle.words.specs.declared.Kind.{Kind}
 use Rattle.words.specs.declared.Kind.TheVariants.{Mere, Keep, Level, Place, Entries}
-use Rattle.words.specs.declared.TheConstants.{BODIES}
+use Rattle.words.specs.declared.TheConstants.{KINDS, BODIES, NODE_LEN}
 use Rattle.words.specs.Tables.{known}
 use Rattle.words.specs.Words.{long_names, short_names, lower, lowered, names, find, or, verb_of, option_of, kinds, kind_of, verb_name, option_name, short_name, bodies, body_of, len_with, record_len}
 use Rattle.words.specs.Rows.{padded, verb_row, option_row, kind_number, kind_bytes, kind_at, row_name, row_names, candidate_of, row_number, body_bytes, body_at}
@@ -122,6 +122,14 @@ kind_number_lem n = ap kind_at (get_or-map kind_number kinds n Mere) ∙ again (
     again Level = refl
     again Place = refl
     again Entries = refl
+
+-- the code's table has the kinds themselves: those that the numbers in kind_bytes stand for
+pub kinds_listed : map kind_number KINDS ≡ kind_bytes
+unfolding kind_bytes kinds
+kinds_listed = refl
+
+pub kind_listed : (n : ℕ) → kind_at (get_or (map kind_number KINDS) n 0) ≡ kind_of n
+kind_listed n = ap (λ (t : List ℕ). kind_at (get_or t n 0)) kinds_listed ∙ kind_number_lem n
 
 -- ---- a search among the options' rows
 
@@ -284,6 +292,11 @@ pub body_at_lem : (k : ℕ) → k ≤ 16 → body_at (get_or body_bytes k 0) ≡
 unfolding body_of body_bytes bodies
 body_at_lem k h = ap body_at (get_d_within body_bytes k 0 255 (omega arith)) ∙ sym (get_or-map body_at body_bytes k 255)
 
+-- the code's table has the lengths themselves: those that the bytes in body_bytes stand for
+pub bodies_listed : BODIES ≡ map (λ (b : ℕ). known (body_at b)) body_bytes
+unfolding body_bytes bodies
+bodies_listed = refl
+
 -- what the table says of a kind
 pub body_listed : (k : ℕ) → get_or BODIES k None ≡ known (body_of k)
 unfolding body_of bodies
@@ -306,6 +319,11 @@ len_unknown k = go (body_of k)
     go : (o : Option ℕ) → None ≡ known o → 0 ≡ len_with o
     go none e = refl
     go (some m) e = cc
+
+-- a node's record is as long as the constant says of which the table is made
+pub node_length : NODE_LEN ≡ record_len 16
+unfolding record_len body_of bodies
+node_length = refl
 
 -- by kind: 1 verb, 2 option, 3 target, 4 property, 5 refusal, 6 blank, 7 cut, 16 node
 pub lengths : (record_len 1 ≡ 2) × (record_len 2 ≡ 6) × (record_len 3 ≡ 5) × (record_len 4 ≡ 10) × (record_len 5 ≡ 4) × (record_len 6 ≡ 1) × (record_len 7 ≡ 1) × (record_len 16 ≡ 22)

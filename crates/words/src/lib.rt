@@ -72,6 +72,9 @@ const KINDS: [Kind; 13] = [
     Kind::Mere,
 ];
 
+// How many bytes a node's record has, its kind among them: of a tree, whose records are arrays, this is a constant.
+pub const NODE_LEN: usize = 22;
+
 // How long the body of a record is, by its kind; none for a kind that no record has.
 const BODIES: [Option<u8>; 17] = [
     None,
@@ -90,7 +93,7 @@ const BODIES: [Option<u8>; 17] = [
     None,
     None,
     None,
-    Some(21), // node
+    Some(NODE_LEN as u8 - 1), // node
 ];
 
 // What stands in a table at a number, or the value that is given for a number that it does not have.
