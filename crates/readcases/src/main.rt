@@ -68,9 +68,8 @@ fn cases(input: &[u8]) {
             say(b"short\n");
             return;
         };
-        let end = p.end;
-        show(&input[p], two_at(input, at, 0));
-        at = end;
+        show(&input[p.start..p.end], two_at(input, at, 0));
+        at = p.end;
     }
 }
 

@@ -43,7 +43,7 @@ fn put_together(input: &[u8], at: usize, out: &mut [u8]) -> Option<Pieced>
         let p = part_at(input, end, 4, two_at(input, end, 2))?;
         let times = two_at(input, end, 0);
         end = p.end;
-        len = repeat(out, len, &input[p], times);
+        len = repeat(out, len, &input[p.start..p.end], times);
     }
     Some(Pieced { end, len })
 }

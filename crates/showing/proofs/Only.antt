@@ -11,7 +11,7 @@ use borrow.Fn.World
 use borrow.Fn.Kinds
 use denote.Triple.Clauses
 use Rattle.text.proofs.Tests.{either}
-use Rattle.std.specs.declared.ops.Range.{Range}
+use Rattle.showing.specs.declared.Stretch.{Stretch}
 use Rattle.std.proofs.Common.{Option, Some, None, Bor}
 use Rattle.showing.specs.Ways.{LineIs, PartIs, TwoIs}
 use Rattle.showing.specs.contracts.line_len as line-len-fn
@@ -37,7 +37,7 @@ two_same s at skip r r' p q =
     (λ e. let h = leb-false (at + skip + 2) (length s) e in p.missing h ∙ sym (q.missing h))
 
 -- a part is there, or cut
-part_same : (s : List ℕ) (at skip len : ℕ) (r r' : Option (Range ℕ)) → PartIs s at skip len r → PartIs s at skip len r' → r ≡ r'
+part_same : (s : List ℕ) (at skip len : ℕ) (r r' : Option Stretch) → PartIs s at skip len r → PartIs s at skip len r' → r ≡ r'
 part_same s at skip len None None p q = refl
 part_same s at skip len None (Some y) p q = absurd (omega (arith, p, q.1, q.2))
 part_same s at skip len (Some x) None p q = absurd (omega (arith, q, p.1, p.2))

@@ -1,8 +1,8 @@
 -- Where the parts of an input stand.
 use Rattle.std.specs.Prelude.{ℕ, ◌+◌, ◌-◌, ◌*◌, ◌≤◌, ◌<◌, List, cond, not, ◌||◌, ◌≡◌, length, get_or, drop, eqb, leb, ltb, Option, MatchOption, take}
 use Rattle.std.specs.Borrow.{Bor}
-use Rattle.std.specs.declared.ops.Range.{Range}
 use Rattle.text.specs.Lists.{run_len}
+use Rattle.showing.specs.declared.Stretch.{Stretch}
 
 -- how many bytes stand from a place on before the next LF, or before the end
 unfoldable pub line_len : List ℕ → ℕ → ℕ
@@ -17,7 +17,7 @@ unfoldable pub onward_to : ℕ → ℕ → ℕ → ℕ
 onward_to at used len = cond (leb len at || (eqb used 0 || ltb (len - at) used)) len (at + used)
 
 -- r is where the part of len bytes stands that begins skip bytes after a place of s, or says that s is cut before the part's end
-abbrev pub PartIs : List ℕ → ℕ → ℕ → ℕ → Option (Range ℕ) → Type 0
+abbrev pub PartIs : List ℕ → ℕ → ℕ → ℕ → Option Stretch → Type 0
 PartIs s at skip len r = MatchOption r (length s < at + skip + len) (λ p. (p.start ≡ at + skip) × (p.end ≡ at + skip + len) × (p.end ≤ length s))
 
 -- r is the number in the two bytes of s, high first, that begin skip bytes after a place, or 0 where they are not there

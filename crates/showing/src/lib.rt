@@ -4,7 +4,6 @@
 ghost use Rattle.std.specs.Prelude.{◌≡◌, ◌+◌, ◌-◌, ◌≤◌, ◌<◌, min, length};
 ghost use Rattle.showing.specs.Ways.{line_len, LineIs, onward_to, PartIs, TwoIs};
 
-use std::ops::Range;
 use text::Refusal;
 
 // Standard output.
@@ -87,14 +86,21 @@ pub fn split_line(input: &[u8]) -> Option<(&[u8], &[u8])>
     Some((&input[..n], input.get(n + 1..).unwrap_or(&[])))
 }
 
+// A part of an input, from `start` to `end`. A type of its own, since a `Range` is not `Copy`.
+#[derive(Clone, Copy)]
+pub struct Stretch {
+    pub start: usize,
+    pub end: usize,
+}
+
 // The `len` bytes that begin `skip` bytes after a place: where they stand, if the input is not cut before their end.
-pub fn part_at(input: &[u8], at: usize, skip: usize, len: usize) -> Option<Range<usize>>
+pub fn part_at(input: &[u8], at: usize, skip: usize, len: usize) -> Option<Stretch>
     ensures { PartIs input.now at skip len result }
 {
     let start = at.checked_add(skip)?;
     let end = start.checked_add(len)?;
     if end <= input.len() {
-        Some(start..end)
+        Some(Stretch { start, end })
     } else {
         None
     }

@@ -80,7 +80,7 @@ fn cases(input: &[u8]) {
             return;
         };
         at = p.end;
-        show(&input[p]);
+        show(&input[p.start..p.end]);
     }
 }
 

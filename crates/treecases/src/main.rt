@@ -6,8 +6,7 @@
 
 ghost use Rattle.std.specs.Prelude.{◌≤◌, ◌<◌, length, IfSome};
 
-use showing::{answered, number, part_at, refusal, runs, say, two_at};
-use std::ops::Range;
+use showing::{Stretch, answered, number, part_at, refusal, runs, say, two_at};
 use tree::Resolved;
 
 fn checked(t: &[u8]) {
@@ -80,16 +79,15 @@ fn group(t: &[u8], cases: &[u8]) {
             say(b"cut\n");
             return;
         };
-        let end = p.end;
         let a = two_at(cases, at, 1);
         let b = two_at(cases, at, 3);
-        case(t, cases[at], a, b, &cases[p]);
-        at = end;
+        case(t, cases[at], a, b, &cases[p.start..p.end]);
+        at = p.end;
     }
 }
 
 // Where a tree and its cases stand that begin at a place, if the input is not cut before their end.
-fn parts_at(input: &[u8], at: usize) -> Option<(Range<usize>, Range<usize>)>
+fn parts_at(input: &[u8], at: usize) -> Option<(Stretch, Stretch)>
     ensures { IfSome result (λ p. (p.0.start ≤ p.0.end) × (p.0.end ≤ length input.now) × (p.1.start ≤ p.1.end) × (p.1.end ≤ length input.now) × (at < p.1.end)) }
 {
     let t = part_at(input, at, 4, two_at(input, at, 0))?;
@@ -106,7 +104,7 @@ fn groups(input: &[u8]) {
             return;
         };
         at = c.end;
-        group(&input[t], &input[c]);
+        group(&input[t.start..t.end], &input[c.start..c.end]);
     }
 }
 
