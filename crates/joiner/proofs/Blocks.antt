@@ -6,12 +6,11 @@ use native.Mathlib.Omega.{arith}
 use native.Mathlib.Nat.{add-zero}
 use native.Mathlib.Numerals.{add-one}
 use mathlib.Core.Path.{◌≡◌, refl, sym, ap, ◌∙◌}
-use mathlib.Core.List.{List, [], ◌∷◌, ◌++◌, append_assoc}
+use mathlib.Core.List.{List, [], ◌∷◌, ◌++◌}
 use mathlib.Core.Bool.{Bool, true, false, not, ◌||◌, cond, true≢false, false≢true}
 use lib.ListN.{length, get_or, take, drop, set, length-drop, take-append-drop}
-use lib.Seq.{sets, sets-eq, length-sets, drop-drop, length-take-le, set_out}
+use lib.Seq.{sets, length-sets, drop-cons, drop-drop, length-take-le, set_out}
 use lib.Dec.{eqb}
-use borrow.Rule.Slice.PartMut.{put_mid}
 use Rattle.std.specs.List.{list_any}
 use borrow.Author.Tests.{eqb-false, le-ltb, le-leb}
 use Rattle.joiner.specs.Lines.{plain, byte_kind, is_plain_byte}
@@ -125,10 +124,10 @@ pub kept_long : (o : Bool) (b d : List ℕ) (h : ℕ) → length (cond o b (sets
 kept_long true b d h = refl
 kept_long false b d h = length-sets b h d
 
--- what is stored of a block
-pub put_block : (b d : List ℕ) (held k : ℕ) → k ≡ 16 → length d ≡ 16 → held + 16 ≤ length b → put_mid held k b d ≡ sets b held d
-put_block b d held k f l h =
-    rw f
-    (ap (λ (t : List ℕ). take held b ++ (d ++ t)) (drop-drop 16 held b ∙ ap (λ (j : ℕ). drop (held + j) b) (sym l))
-    ∙ sym (append_assoc (take held b) d (drop (held + length d) b))
-    ∙ sym (sets-eq d b held (omega arith)))
+-- a turn of the loop of `put`: one byte more is stored
+pub put_more : (d b : List ℕ) (at k : ℕ) → k < length b → sets d (at + k) (drop k b) ≡ sets (set d (at + k) (get_or b k 0)) (at + (k + 1)) (drop (k + 1) b)
+put_more d b at k h =
+    let s : suc (at + k) ≡ at + (k + 1) = omega arith in
+    ap (sets d (at + k)) (drop-cons b k 0 h)
+    ∙ ap (λ (n : ℕ). sets (set d (at + k) (get_or b k 0)) n (drop (suc k) b)) s
+    ∙ ap (λ (n : ℕ). sets (set d (at + k) (get_or b k 0)) (at + (k + 1)) (drop n b)) (sym (add-one k))

@@ -1,7 +1,7 @@
 use Rattle.std.proofs.Common.{◌≡◌, ◌+◌, ◌-◌, ◌≤◌, cond, rules, arith, sym, ap, length, ◌∙◌}
 use mathlib.Core.Bool.{true≢false}
 use lib.Seq.{sets, take-take}
-use Rattle.joiner.proofs.Blocks.{not_true, not_false, turn_block, kept_small, kept_large, kept_long, put_block}
+use Rattle.joiner.proofs.Blocks.{not_true, not_false, turn_block, kept_small, kept_large, kept_long}
 use Rattle.joiner.proofs.Laws.{turn_plain}
 use Rattle.joiner.proofs.Reach.{to_fine, held_reachable}
 use Rattle.joiner.proofs.Joiner.pass.Goals as goal
@@ -23,9 +23,7 @@ loop-block-preserved c =
       | else-not-self w ↦ rw (not_false _ w.if-not-self.false) w.held-is
     ] in
     let kept : j.buffer ≡ cond o l.buffer (sets l.buffer l.held c.in-Some.field-0.now) = elim j.branch [
-      | then-not-self w ↦
-          let r = l.invariant.room (not_true _ w.if-not-self.true) in
-          rw (not_true _ w.if-not-self.true, ← w.copy_from_slice.ensures.after) (w.buffer-is ∙ put_block l.buffer w.copy_from_slice.new.self l.held _ (omega arith) (search rules) (omega arith))
+      | then-not-self w ↦ rw (not_true _ w.if-not-self.true) (w.buffer-is ∙ w.put.ensures)
       | else-not-self w ↦ rw (not_false _ w.if-not-self.false) w.buffer-is
     ] in
     record {
