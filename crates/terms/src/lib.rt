@@ -138,6 +138,8 @@ fn first_len(s: &[u8]) -> usize
 }
 
 // The term at or after a place, scanned as at a line's start.
+// Inlined: as a call it took 40 instructions more for each term of a line.
+#[inline(always)]
 pub fn term_at(line: &[u8], at: usize) -> Option<Span>
     ensures { result ≡ term_at line.now at }
 {
