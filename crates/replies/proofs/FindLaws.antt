@@ -7,7 +7,7 @@ use mathlib.Core.Option.{Option, none, some}
 use native.Mathlib.Omega.{arith}
 use borrow.Author.Tests.{ne_eqb}
 use lib.ListN.{length, get_or, take, drop, drop_of_length-le}
-use lib.Seq.{length-take-le}
+use lib.Seq.{length-take-le, drop-drop}
 use Rattle.text.specs.Bytes.{is_word}
 use Rattle.text.specs.Lists.{run_len, up_to}
 use Rattle.text.proofs.Scans.{drop_step, take_up, run_within}
@@ -48,6 +48,23 @@ module _ (s : List ℕ) (i : ℕ) (h : i < length s) where
   pub quote_step : (m n : Mode) → after m (get_or s i 0) ≡ n → is_out n ≡ false → more (i + 1) (quote_len n (drop (i + 1) s)) ≡ more i (quote_len m (drop i s))
   unfolding quote_len
   quote_step m n e o = sym (simp (drop_step s i h, e, o) (more_more i 1 (quote_len n (drop (i + 1) s))))
+
+-- GRAVE's next byte closes no quote, whatever it is
+past_grave : (t : List ℕ) → quote_len (graved_mode true) t ≡ more 1 (quote_len (graved_mode false) (drop 1 t))
+unfolding quote_len after
+past_grave [] = refl
+past_grave (b ∷ t) = refl
+
+-- GRAVE and its next byte, where there is one
+pub quote_pair : (s : List ℕ) (i : ℕ) → i < length s → get_or s i 0 ≡ 96 → more (i + 2) (quote_len In (drop (i + 2) s)) ≡ more i (quote_len In (drop i s))
+unfolding after
+quote_pair s i h e =
+    let k : i + 1 + 1 ≡ i + 2 = omega arith in
+    sym (ap (λ (j : ℕ). more j (quote_len In (drop j s))) k)
+    ∙ sym (more_more (i + 1) 1 (quote_len In (drop (i + 1 + 1) s)))
+    ∙ sym (ap (λ (l : List ℕ). more (i + 1) (more 1 (quote_len In l))) (drop-drop 1 (i + 1) s))
+    ∙ sym (ap (more (i + 1)) (past_grave (drop (i + 1) s)))
+    ∙ quote_step s i h In InGrave (rw e) refl
 
 pub quote_past : (s : List ℕ) (i : ℕ) → length s ≤ i → (m : Mode) → quote_len m (drop i s) ≡ none
 unfolding quote_len

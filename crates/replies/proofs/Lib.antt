@@ -4,6 +4,7 @@ pub mod LineLaws
 pub mod FindLaws
 pub mod RunLaws
 pub mod JudgeLaws
+pub mod ValueLaws
 pub mod Forms
 pub mod TurnLaws
 pub mod Refusals

@@ -1,5 +1,5 @@
 -- `replies::line` meets its contract.
-use Rattle.std.proofs.Common.{ℕ, ◌+◌, ◌≤◌, length, ap, arith}
+use Rattle.std.proofs.Common.{ℕ, ◌≡◌, ◌+◌, ◌≤◌, length, ap, arith}
 use Rattle.replies.proofs.RunLaws.{seen, fits, nothing_on, item_on, group_on, close_on, deep_run, lone_run, end_run, early_run, wrong_run, open_run}
 use Rattle.replies.proofs.line.Goals as goal
 use Rattle.replies.proofs.line.Goals.{In-Nothing, In-Item, In-Group}
@@ -17,8 +17,8 @@ group_within c = fits c.args.s.now c.args.at c.args.depth c.args.w c.args.out.no
 pub overflow_add-at : goal.overflow_add-at
 overflow_add-at c = let z = nothing_within (goal.at.overflow_add-at c).In-Nothing in omega arith
 
-pub past_end-requires : goal.past_end-requires
-past_end-requires c = nothing_within (goal.at.past_end-requires c).In-Nothing
+pub past_end-requires-in-Nothing : goal.past_end-requires-in-Nothing
+past_end-requires-in-Nothing c = nothing_within (goal.at.past_end-requires-in-Nothing c).In-Nothing
 
 pub overflow_add-at-in-Item : goal.overflow_add-at-in-Item
 overflow_add-at-in-Item c = let z = item_within (goal.at.overflow_add-at-in-Item c).In-Item in omega arith
@@ -41,8 +41,13 @@ past_end-requires-in-Group c = let z = group_within (goal.at.past_end-requires-i
 pub past_end-requires-in-Close-2 : goal.past_end-requires-in-Close-2
 past_end-requires-in-Close-2 c = fits c.args.s.now c.args.at c.args.depth c.args.w c.args.out.now c.requires _ c.line_form.ensures c.in-Close.is
 
+pub returns-in-Nothing-eq0 : goal.returns-in-Nothing-eq0
+returns-in-Nothing-eq0 c =
+    let z : c.args.at + c.in-Nothing-eq0.len ≡ c.args.at = omega arith in
+    nothing_on _ _ _ _ _ c.requires _ c.line_form.ensures _ _ c.in-Nothing-eq0.is (rw z c.past_end.ensures.0)
+
 pub returns-in-Nothing : goal.returns-in-Nothing
-returns-in-Nothing c = nothing_on _ _ _ _ _ c.requires _ c.line_form.ensures _ _ c.in-Nothing.is c.past_end.ensures.0
+returns-in-Nothing c = nothing_on _ _ _ _ _ c.requires _ c.line_form.ensures _ _ c.in-Nothing.is c.past_end-in-Nothing.ensures.0
 
 pub returns-in-Item : goal.returns-in-Item
 returns-in-Item c = item_on _ _ _ _ _ c.requires _ c.line_form.ensures _ _ _ _ _ c.in-Item.is c.past_end-in-Item.ensures.0 c.put_item.ensures.0 c.put_item.ensures.1

@@ -1,13 +1,18 @@
--- `replies::row_len` meets its contract.
-use Rattle.std.proofs.Common.{◌∙◌, refl, rules, tests}
-use Rattle.std.proofs.lemmas.Iterator.{YieldsList-from_slice}
-use Rattle.std.proofs.lemmas.Iterator.Search.{position_from_yields_List}
-use Rattle.text.proofs.Chains.{first_passes}
+use mathlib.Core.Path.{sym, ap, ◌∙◌}
+use native.Mathlib.Omega.{arith}
+use lib.ListN.{length}
+use Rattle.text.proofs.Scans.{up_stops, up_on, up_past}
 use Rattle.replies.specs.Lines.{is_end}
 use Rattle.replies.proofs.row_len.Goals as goal
 
+pub loop-i-init : goal.loop-i-init
+loop-i-init c = (omega arith, omega arith)
+
+pub returns-then-is_end : goal.returns-then-is_end
+returns-then-is_end c = omega (arith, ap length (up_stops is_end c.args.s.now c.loop-i.i c.loop-i-test.true (sym c.is_end.ensures ∙ c.if-is_end.true)))
+
+pub loop-i-preserved : goal.loop-i-preserved
+loop-i-preserved c = (omega arith, omega (arith, ap length (up_on is_end c.args.s.now c.loop-i.i c.loop-i-test.true (sym c.is_end.ensures ∙ c.if-is_end.false))))
+
 pub returns : goal.returns
-returns c =
-    let xs = c.args.s.now in
-    let p = position_from_yields_List is_end _ _ _ c.position.ensures.ran (YieldsList-from_slice xs cc) (λ x b q k. search (rules, tests)) in
-    c.unwrap_or.ensures ∙ first_passes is_end c.position.result _ xs refl p
+returns c = omega (arith, ap length (up_past is_end c.args.s.now c.loop-i.i c.loop-i-test.false))
