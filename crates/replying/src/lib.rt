@@ -6,6 +6,7 @@ ghost use Rattle.std.proofs.lemmas.List.Edits.{sets};
 ghost use Rattle.text.specs.Lists.{any_of};
 ghost use Rattle.terms.specs.Signs.{raw, raws};
 ghost use Rattle.terms.specs.Quotes.{in_quotes, closing};
+ghost use Rattle.words.specs.Words.{reply_record_len};
 ghost use Rattle.replies.specs.Lines.{is_end};
 ghost use Rattle.replies.specs.Items.{item, group};
 ghost use Rattle.replying.specs.Records.{field_at, part_at, record_told, asked_of};
@@ -14,7 +15,6 @@ ghost use Rattle.replying.specs.Steps.{part_told, cue_told, told_by_cue, Held, H
 
 use replies::{begins_quote, is_end, is_keyword};
 use text::{Refusal, copy, pair, put};
-use words::reply_record_len;
 
 // What a record tells, by the parts of the text that it names.
 #[derive(Clone, Copy)]
@@ -44,13 +44,26 @@ fn part_at<'a>(rec: &[u8], at: usize, text: &'a [u8]) -> Option<&'a [u8]>
     text.get(from..from + field(rec, at + 2))
 }
 
+// How long a whole record is, by its kind. Those of a reply are asked for one by one: so each is known when this is compiled.
+fn len_of(kind: u8) -> usize
+    ensures { result ≡ reply_record_len kind }
+{
+    match kind {
+        64 => words::reply_record_len(64),
+        65 => words::reply_record_len(65),
+        66 => words::reply_record_len(66),
+        67 => words::reply_record_len(67),
+        _ => words::reply_record_len(kind),
+    }
+}
+
 // What the record tells that some bytes begin with; none where it is of no kind of a reply's, cut, or with a part past the text.
 #[tactic(auto, unfolding(crate::specs::Records::record_told))]
 fn cue_of<'a>(rec: &[u8], text: &'a [u8]) -> Option<Cue<'a>>
     requires { (0 < length rec.now) × (length text.now ≤ 65535) }
     ensures { (cue_told result ≡ record_told text.now rec.now) × Held result }
 {
-    if rec.len() < reply_record_len(rec[0]) {
+    if rec.len() < len_of(rec[0]) {
         return None;
     }
     match rec[0] {
@@ -70,6 +83,8 @@ fn cue_of<'a>(rec: &[u8], text: &'a [u8]) -> Option<Cue<'a>>
 // ---- lines. Every writer tells where its text ends. What would stand past the room's end is not written, but counted.
 
 // Whether a text holds CR or LF. The loop has no other way out, so that many bytes are compared at once.
+// Not inlined: in `value_len` they were compared one by one, and writing a long value took seven times as long.
+#[inline(never)]
 fn has_end(v: &[u8]) -> bool
     ensures { result ≡ any_of is_end v.now }
 {
@@ -198,7 +213,11 @@ fn closing_len(s: &[u8]) -> usize
     requires { length s.now ≤ 65535 }
     ensures { (result ≡ length (raws (closing s.now))) × (result ≤ 2 * length s.now + 1) }
 {
-    s.len() + s.iter().filter(|b| matches!(**b, b'`' | b'"')).count() + 1
+    s.len()
+        + s.iter()
+            .map(|b| usize::from(matches!(*b, b'`' | b'"')))
+            .sum::<usize>()
+        + 1
 }
 
 #[tactic(auto, unfolding(crate::specs::Writing::value_line, terms::specs::Signs::raws))]
@@ -293,7 +312,7 @@ fn weigh(records: &[u8], text: &[u8]) -> Result<usize, Refusal>
             return sized(n);
         };
         depth = d;
-        at += reply_record_len(records[at]);
+        at += len_of(records[at]);
     }
     Err(Refusal {
         number: 25,
@@ -316,7 +335,7 @@ fn put_all(records: &[u8], text: &[u8], out: &mut [u8])
         if let Cue::End = cue {
             return;
         }
-        at += reply_record_len(records[at]);
+        at += len_of(records[at]);
     }
 }
 

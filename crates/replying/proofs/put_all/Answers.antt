@@ -10,16 +10,16 @@ use Rattle.replying.specs.Steps.{cue_told, told_by_cue}
 use Rattle.replying.proofs.RecordLaws.{asked_within, asked_past, goes_on_cue}
 use Rattle.replying.proofs.WeighLaws.{put_last, put_next}
 use Rattle.replying.proofs.put_all.Goals as goal
-use Rattle.replying.proofs.put_all.Goals.{After-reply_record_len-at}
+use Rattle.replying.proofs.put_all.Goals.{After-len_of-at}
 
 -- what the record tells
 told : {o : StdOption Cue} {c : Cue} {x : Option Told} → o ≡ Some c → cue_told o ≡ x → some (told_by_cue c) ≡ x
 told i e = sym (ap cue_told i) ∙ e
 
 -- the next one's place
-within : (c : After-reply_record_len-at) → (1 ≤ c.reply_record_len-at.result) × (c.loop-at.at + c.reply_record_len-at.result ≤ length c.args.records.now)
+within : (c : After-len_of-at) → (1 ≤ c.len_of-at.result) × (c.loop-at.at + c.len_of-at.result ≤ length c.args.records.now)
 within c =
-    asked_within c.args.records.now c.args.text.now c.loop-at.at c.loop-at-test.true _ (told c.in-Some.is c.cue_of.ensures.0) c.reply_record_len-at.result c.reply_record_len-at.ensures (goes_on_cue c.in-Some.cue c.in_default-cue.not-End)
+    asked_within c.args.records.now c.args.text.now c.loop-at.at c.loop-at-test.true _ (told c.in-Some.is c.cue_of.ensures.0) c.len_of-at.result c.len_of-at.ensures (goes_on_cue c.in-Some.cue c.in_default-cue.not-End)
 
 pub loop-at-init : goal.loop-at-init
 unfolding written_by asked_of
@@ -45,7 +45,7 @@ pub loop-at-preserved : goal.loop-at-preserved
 loop-at-preserved c =
     let l = c.loop-at in
     let p = c.put_line-w in
-    let x = put_next c.args.records.now c.args.text.now l.at c.loop-at-test.true _ (told c.in-Some.is c.cue_of.ensures.0) l.out p.new.out _ l.w p.result l.invariant.0 p.ensures.0 p.ensures.1 (goes_on_cue c.in-Some.cue c.in_default-cue.not-End) c.reply_record_len-at.result c.reply_record_len-at.ensures _ l.invariant.1 in
+    let x = put_next c.args.records.now c.args.text.now l.at c.loop-at-test.true _ (told c.in-Some.is c.cue_of.ensures.0) l.out p.new.out _ l.w p.result l.invariant.0 p.ensures.0 p.ensures.1 (goes_on_cue c.in-Some.cue c.in_default-cue.not-End) c.len_of-at.result c.len_of-at.ensures _ l.invariant.1 in
     (x.0, x.1, omega arith, (within c).1)
 
 pub returns : goal.returns

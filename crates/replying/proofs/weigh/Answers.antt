@@ -6,18 +6,18 @@ use Rattle.replying.specs.Steps.{cue_told, weighed}
 use Rattle.replying.proofs.RecordLaws.{asked_past}
 use Rattle.replying.proofs.WeighLaws.{turn_refused, turn_placed, turn_done, turn_within, turn_on, weigh_none}
 use Rattle.replying.proofs.weigh.Goals as goal
-use Rattle.replying.proofs.weigh.Goals.{In_ok-next, After-reply_record_len}
+use Rattle.replying.proofs.weigh.Goals.{In_ok-next, After-len_of}
 
 -- what a record leads to, which is no refusal
 led : (c : In_ok-next) → c.judge.result ≡ Ok c.in_ok-next.next
 led c = search rules
 
 -- the next record's place
-within : (c : After-reply_record_len) → (1 ≤ c.reply_record_len.result) × (c.loop-at.at + c.reply_record_len.result ≤ length c.args.records.now)
+within : (c : After-len_of) → (1 ≤ c.len_of.result) × (c.loop-at.at + c.len_of.result ≤ length c.args.records.now)
 within c =
     let l = c.loop-at in
     let j : c.judge.result ≡ Ok c.in_ok-next.next = search rules in
-    turn_within c.args.records.now c.args.text.now l.at c.loop-at-test.true _ (sym (ap cue_told c.in-Some.is) ∙ c.cue_of.ensures.0) l.depth _ (sym (j ∙ ap Ok c.in-Some-next.is) ∙ c.judge.ensures) c.reply_record_len.result c.reply_record_len.ensures
+    turn_within c.args.records.now c.args.text.now l.at c.loop-at-test.true _ (sym (ap cue_told c.in-Some.is) ∙ c.cue_of.ensures.0) l.depth _ (sym (j ∙ ap Ok c.in-Some-next.is) ∙ c.judge.ensures) c.len_of.result c.len_of.ensures
 
 pub loop-at-init : goal.loop-at-init
 unfolding asked_of
@@ -48,7 +48,7 @@ pub loop-at-preserved : goal.loop-at-preserved
 loop-at-preserved c =
     let l = c.loop-at in
     let j = led (goal.at.loop-at-preserved c).In_ok-next ∙ ap Ok c.in-Some-next.is in (
-      turn_on c.args.records.now c.args.text.now l.at c.loop-at-test.true _ (sym (ap cue_told c.in-Some.is) ∙ c.cue_of.ensures.0) l.depth l.n _ l.invariant.0 _ (sym j ∙ c.judge.ensures) c.reply_record_len.result c.reply_record_len.ensures c.added-n.result c.added-n.ensures,
+      turn_on c.args.records.now c.args.text.now l.at c.loop-at-test.true _ (sym (ap cue_told c.in-Some.is) ∙ c.cue_of.ensures.0) l.depth l.n _ l.invariant.0 _ (sym j ∙ c.judge.ensures) c.len_of.result c.len_of.ensures c.added-n.result c.added-n.ensures,
       (within c).1,
     )
 
