@@ -88,17 +88,18 @@ whole_kind k left h = let w = whole (form_of k) left h in form_small k w.what w.
 
 -- ---- the table of kinds
 
--- one of eight
-pub each_kind : {P : Type 0} (k : ℕ) → k ≤ 7 → (k ≡ 0 → P) → (k ≡ 1 → P) → (k ≡ 2 → P) → (k ≡ 3 → P) → (k ≡ 4 → P) → (k ≡ 5 → P) → (k ≡ 6 → P) → (k ≡ 7 → P) → P
-each_kind {P} k l =
-    eight (λ (n : ℕ). (n ≡ 0 → P) → (n ≡ 1 → P) → (n ≡ 2 → P) → (n ≡ 3 → P) → (n ≡ 4 → P) → (n ≡ 5 → P) → (n ≡ 6 → P) → (n ≡ 7 → P) → P)
-    (λ a b c d e f g h. a refl) (λ a b c d e f g h. b refl) (λ a b c d e f g h. c refl) (λ a b c d e f g h. d refl)
-    (λ a b c d e f g h. e refl) (λ a b c d e f g h. f refl) (λ a b c d e f g h. g refl) (λ a b c d e f g h. h refl) k l
-
 abbrev pub width_rows : List (List ℕ)
-width_rows = [] ∷ (1 ∷ []) ∷ (1 ∷ 2 ∷ 2 ∷ []) ∷ (2 ∷ 2 ∷ []) ∷ (2 ∷ 2 ∷ 1 ∷ 2 ∷ 2 ∷ []) ∷ (1 ∷ 2 ∷ []) ∷ [] ∷ [] ∷ []
+width_rows =
+    (0 ∷ 0 ∷ 0 ∷ 0 ∷ 0 ∷ 0 ∷ [])
+    ∷ (1 ∷ 0 ∷ 0 ∷ 0 ∷ 0 ∷ 0 ∷ [])
+    ∷ (1 ∷ 2 ∷ 2 ∷ 0 ∷ 0 ∷ 0 ∷ [])
+    ∷ (2 ∷ 2 ∷ 0 ∷ 0 ∷ 0 ∷ 0 ∷ [])
+    ∷ (2 ∷ 2 ∷ 1 ∷ 2 ∷ 2 ∷ 0 ∷ [])
+    ∷ (1 ∷ 2 ∷ 0 ∷ 0 ∷ 0 ∷ 0 ∷ [])
+    ∷ (0 ∷ 0 ∷ 0 ∷ 0 ∷ 0 ∷ 0 ∷ [])
+    ∷ (0 ∷ 0 ∷ 0 ∷ 0 ∷ 0 ∷ 0 ∷ [])
+    ∷ []
 
--- none of its widths is zero
 pub row_fields_lem : (k : ℕ) → k ≤ 7 → row_fields (get_or width_rows k []) ≡ fields_by (form_of k)
 unfolding row_fields form_of forms
 row_fields_lem = eight (λ (k : ℕ). row_fields (get_or width_rows k []) ≡ fields_by (form_of k)) refl refl refl refl refl refl refl refl

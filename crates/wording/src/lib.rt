@@ -8,24 +8,22 @@ ghost use Rattle.wording.specs.Steps.{word_by, fields_by, len_by, first_text, fi
 
 use text::{Refusal, copy, put, put_decimal};
 
-// The word of each kind, and how many bytes each of its fields has; 0 is no kind.
-const KINDS: [(&[u8], &[u8]); 8] = [
-    (b"", &[]),
-    (b"verb", &[1]),
-    (b"option", &[1, 2, 2]),
-    (b"target", &[2, 2]),
-    (b"property", &[2, 2, 1, 2, 2]),
-    (b"refusal", &[1, 2]),
-    (b"blank", &[]),
-    (b"cut", &[]),
-];
-
-// Those of one kind.
+// The word of a kind, and how many bytes each of its fields has; 0 is no kind. A match and no table of slices: a table is put on the stack whole at each lookup,
+// and blank records took half as long again.
 fn kind_of(number: u8) -> (&'static [u8], &'static [u8])
     requires { number ≤ 7 }
     ensures { (result.0.now ≡ word_by (form_of number)) × (result.1.now ≡ fields_by (form_of number)) }
 {
-    KINDS[usize::from(number)]
+    match number {
+        1 => (b"verb", &[1]),
+        2 => (b"option", &[1, 2, 2]),
+        3 => (b"target", &[2, 2]),
+        4 => (b"property", &[2, 2, 1, 2, 2]),
+        5 => (b"refusal", &[1, 2]),
+        6 => (b"blank", &[]),
+        7 => (b"cut", &[]),
+        _ => (b"", &[]),
+    }
 }
 
 // How long the record is that `left` bytes begin with, where a reading has such a kind and it is not cut.
