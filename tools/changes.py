@@ -54,22 +54,35 @@ def functions(text):
     return out
 
 
+def headed(lines):
+    """the lines with each module's head, which may go over several, on one"""
+    out, open_head = [], False
+    for l in lines:
+        if open_head:
+            out[-1] += ' ' + l.strip()
+        else:
+            out.append(l)
+        open_head = re.match(r' *module _ ', out[-1]) is not None and not re.search(r'\bwhere$', out[-1])
+    return out
+
+
 def declared(text, spec):
     """declarations of an antt file: name -> its statement, and in specs/ its body as well"""
     out = {}
-    module = ''
-    lines = text.split('\n')
+    # the modules that a line stands in, one within another, two columns each
+    modules = []
+    lines = headed(text.split('\n'))
     i = 0
     while i < len(lines):
-        m = re.match(r'(module _ .*) where$', lines[i])
-        if m:
-            module = m.group(1) + ' '
+        if lines[i].strip() and not lines[i].lstrip().startswith('--'):
+            del modules[(len(lines[i]) - len(lines[i].lstrip())) // 2:]
+        m = re.match(r'( *)(module _ .*) where$', lines[i])
+        if m and len(m.group(1)) == 2 * len(modules):
+            modules.append(m.group(2))
             i += 1
             continue
-        if lines[i] and not lines[i].startswith(' ') and not lines[i].startswith('--'):
-            module = ''
         m = re.match(r'( *)((?:abbrev |unfoldable )?(?:pub )?(?:record |data )?)([^\s:(]+)(?: .*)? :(?: |$)', lines[i])
-        if m and not lines[i].lstrip().startswith(('use ', 'let ', '--')) and len(m.group(1)) <= (2 if module else 0):
+        if m and not lines[i].lstrip().startswith(('use ', 'let ', '--')) and len(m.group(1)) == 2 * len(modules):
             begin, indent = i, len(m.group(1))
             name = m.group(3)
             i += 1
@@ -88,7 +101,7 @@ def declared(text, spec):
                 i += 1
             public = 'pub ' in m.group(2) or spec
             if public:
-                out[name] = plain((module if not spec else '') + ' '.join(taken))
+                out[name] = plain(' '.join(([] if spec else modules) + taken))
             while i < len(lines) and lines[i].strip() and (len(lines[i]) - len(lines[i].lstrip()) > indent or re.match(r' *(%s|unfolding)\b' % re.escape(name), lines[i])):
                 i += 1
             continue
